@@ -1,0 +1,101 @@
+// The calls of a policy over an order.
+ghost use mathlib.Core.Path.{_≡_};
+ghost use Rattle.policy.specs.Laws.{Sound};
+ghost use Rattle.ordered.specs.Ordered.{ordered, state-of};
+use super::Ordered;
+use crate::order::PageOrder;
+use policy::fault::PolicyFault;
+use policy::policy::Policy;
+
+// The most faults that a policy accepts, the most pages that it holds, and the number from which there is no page.
+const MOST_FAULTS: u32 = 16_000_000;
+const MOST_PAGES: u16 = 1024;
+const PAGES: u32 = 4096;
+
+impl<O: PageOrder> Ordered<O> {
+    // A policy over the order, which is cleared.
+    pub fn new(mut order: O) -> Ordered<O>
+        ensures opening { λ r. ⌜ state-of placed r ≡ ordered orders .opening tt ⌝ }
+        ensures sound { λ r. ⌜ Sound (ordered orders) (state-of placed r) ⌝ }
+    {
+        order.clear();
+        Ordered { order, faults: 0 }
+    }
+}
+
+pub impl<O: PageOrder> Policy for Ordered<O> as OrderedPolicy {
+    ghost model = { ordered (O·PageOrder .orders) };
+
+    ghost standing = { state-of (O·PageOrder .placed) };
+
+    fn clear(&mut self) {
+        self.order.clear();
+        self.faults = 0;
+    }
+
+    fn fault(&mut self, page: u32) -> Result<(), PolicyFault> {
+        if page >= PAGES {
+            return Err(PolicyFault::NotAPage);
+        }
+        if self.order.contains(page) {
+            return Err(PolicyFault::AlreadyHeld);
+        }
+        if self.faults >= MOST_FAULTS {
+            return Err(PolicyFault::TooManyFaults);
+        }
+        self.faults += 1;
+        Ok(())
+    }
+
+    fn load(&mut self, page: u32) -> Result<(), PolicyFault> {
+        if page >= PAGES {
+            return Err(PolicyFault::NotAPage);
+        }
+        if self.order.contains(page) {
+            return Err(PolicyFault::AlreadyHeld);
+        }
+        if self.order.len() >= MOST_PAGES {
+            return Err(PolicyFault::Full);
+        }
+        self.order.put(page);
+        Ok(())
+    }
+
+    fn hit(&mut self, page: u32) -> Result<(), PolicyFault> {
+        if page >= PAGES {
+            return Err(PolicyFault::NotAPage);
+        }
+        if !self.order.contains(page) {
+            return Err(PolicyFault::NotHeld);
+        }
+        self.order.touch(page);
+        Ok(())
+    }
+
+    fn drop(&mut self, page: u32) -> Result<(), PolicyFault> {
+        if page >= PAGES {
+            return Err(PolicyFault::NotAPage);
+        }
+        if !self.order.contains(page) {
+            return Err(PolicyFault::NotHeld);
+        }
+        self.order.remove(page);
+        Ok(())
+    }
+
+    fn give(&mut self) -> Option<u16> {
+        self.order.take()
+    }
+
+    fn holds(&self, page: u32) -> bool {
+        page < PAGES && self.order.contains(page)
+    }
+
+    fn len(&self) -> u16 {
+        self.order.len()
+    }
+
+    fn faults(&self) -> u32 {
+        self.faults
+    }
+}

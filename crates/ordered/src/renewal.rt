@@ -1,0 +1,23 @@
+// What puts a page at the end of a line.
+ghost use mathlib.Core.Path.{_≡_};
+ghost use mathlib.Core.Bool.{Bool, true, false};
+
+pub trait Renewal {
+    // Whether a use does, as a load does always.
+    ghost renews: { Bool };
+
+    fn renews(&self) -> bool
+        ensures { λ r. ⌜ r ≡ renews ⌝ };
+}
+
+// Only a load.
+#[derive(Drop)]
+pub struct ByLoad;
+
+pub impl Renewal for ByLoad as ByLoadRenewal {
+    ghost renews = { false };
+
+    fn renews(&self) -> bool {
+        false
+    }
+}

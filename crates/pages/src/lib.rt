@@ -1,0 +1,2 @@
+// Pages in order: the queue that the policies stand on, and lists of pages.
+pub mod queue;

@@ -1,0 +1,4 @@
+pub mod Refusals
+pub mod Model
+pub mod Laws
+pub mod Histories

@@ -1,0 +1,4 @@
+// What every page-replacement policy offers, and what each call means.
+pub mod fault;
+pub mod laws;
+pub mod policy;

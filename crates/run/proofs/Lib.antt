@@ -1,0 +1,3 @@
+pub mod Touches
+pub mod Releases
+pub mod Traces
