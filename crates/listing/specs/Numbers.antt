@@ -1,0 +1,55 @@
+-- The numbers of a text, parted by white space. Assumes nothing.
+use mathlib.Core.Path.{_≡_}
+use mathlib.Core.List.{List, [], _∷_, _++_}
+use mathlib.Core.Bool.{Bool, cond, _||_, _&&_}
+use Prim.Native.Nat.{ℕ, _+_, _-_, _*_, _^_}
+use lib.Dec.{eqb, leb, ltb}
+use Rattle.std.specs.declared.option.Option.{Option}
+use Rattle.std.specs.declared.option.Option.the-variants.{Some, None}
+use Rattle.std.specs.declared.result.Result.{Result}
+use Rattle.std.specs.declared.result.Result.the-variants.{Ok, Err}
+use Rattle.listing.specs.declared.read.Progress.{Progress}
+use Rattle.listing.specs.declared.read.Progress.the-variants.{Grown, Parted, Bad}
+use Rattle.listing.specs.declared.read.ReadFault.{ReadFault}
+use Rattle.listing.specs.declared.read.ReadFault.the-variants.{Memory, Byte}
+
+-- a space, a line end, a carriage return or a tab
+abbrev pub is-space : ℕ → Bool
+is-space b = eqb b 32 || (eqb b 10 || (eqb b 13 || eqb b 9))
+
+abbrev pub is-digit : ℕ → Bool
+is-digit b = leb 48 b && leb b 57
+
+-- the number so far
+abbrev pub value-of : Option ℕ → ℕ
+value-of None = 0
+value-of (Some n) = n
+
+abbrev pub word-of : Option ℕ → List ℕ
+word-of None = []
+word-of (Some n) = n ∷ []
+
+-- white space ends a word; a digit makes its number ten times as great and adds itself, while it fits 32 bits
+abbrev pub after-byte : Option ℕ → ℕ → Progress
+after-byte w b = cond (is-space b) Parted (cond (is-digit b && ltb (value-of w * 10 + (b - 48)) (2 ^ 32)) (Grown (value-of w * 10 + (b - 48))) Bad)
+
+-- words before those of the rest of a text
+abbrev pub before : List ℕ → Result (List ℕ) ℕ → Result (List ℕ) ℕ
+before xs (Ok ys) = Ok (xs ++ ys)
+before xs (Err k) = Err k
+
+-- the numbers from place k on, after the word so far, or the place of the first byte that is bad
+abbrev pub numbers-from : ℕ → Option ℕ → List ℕ → Result (List ℕ) ℕ
+numbers-from k w [] = Ok (word-of w)
+numbers-from k w (b ∷ bs) = elim (after-byte w b) [ Grown n ↦ numbers-from (k + 1) (Some n) bs | Parted ↦ before (word-of w) (numbers-from (k + 1) None bs) | Bad ↦ Err k ]
+
+abbrev pub numbers-in : List ℕ → Result (List ℕ) ℕ
+numbers-in bs = numbers-from 0 None bs
+
+abbrev pub Reads : List ℕ → List ℕ → Type 0
+Reads bs ns = numbers-in bs ≡ Ok ns
+
+-- a text fails by its first bad byte, or for want of memory
+abbrev pub Fails : List ℕ → ReadFault → Type 0
+Fails bs Memory = Unit {0}
+Fails bs (Byte k) = numbers-in bs ≡ Err k
