@@ -8,10 +8,12 @@ use Rattle.std.specs.declared.option.Option.{Option}
 use Rattle.std.specs.declared.option.Option.the-variants.{Some, None}
 use Rattle.std.specs.declared.result.Result.{Result}
 use Rattle.std.specs.declared.result.Result.the-variants.{Ok, Err}
+use Rattle.std.specs.declared.alloc.Global.{Global}
+use Rattle.std.specs.declared.vec.Vec.{Vec}
+use Rattle.std.specs.Of.Vec.{vec-items}
+use Rattle.listing.specs.declared.read.BadByte.{BadByte}
 use Rattle.listing.specs.declared.read.Progress.{Progress}
 use Rattle.listing.specs.declared.read.Progress.the-variants.{Grown, Parted, Bad}
-use Rattle.listing.specs.declared.read.ReadFault.{ReadFault}
-use Rattle.listing.specs.declared.read.ReadFault.the-variants.{Memory, Byte}
 
 -- a space, a line end, a carriage return or a tab
 abbrev pub is-space : ℕ → Bool
@@ -46,10 +48,7 @@ numbers-from k w (b ∷ bs) = elim (after-byte w b) [ Grown n ↦ numbers-from (
 abbrev pub numbers-in : List ℕ → Result (List ℕ) ℕ
 numbers-in bs = numbers-from 0 None bs
 
-abbrev pub Reads : List ℕ → List ℕ → Type 0
-Reads bs ns = numbers-in bs ≡ Ok ns
-
--- a text fails by its first bad byte, or for want of memory
-abbrev pub Fails : List ℕ → ReadFault → Type 0
-Fails bs Memory = Unit {0}
-Fails bs (Byte k) = numbers-in bs ≡ Err k
+-- what a reader found
+abbrev pub found-of : Result (Vec ℕ Global) BadByte → Result (List ℕ) ℕ
+found-of (Ok v) = Ok (vec-items v)
+found-of (Err e) = Err (e .at)

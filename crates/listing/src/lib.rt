@@ -1,3 +1,4 @@
-// Traces as text: the numbers that are read, and the lines that are printed.
+// Traces as text: numbers are read, played over FIFO, and printed touch by touch.
+pub mod listing;
 pub mod print;
 pub mod read;

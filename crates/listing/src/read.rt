@@ -2,37 +2,15 @@
 ghost use mathlib.Core.Path.{_≡_};
 ghost use mathlib.Core.List.{_++_};
 ghost use Rattle.std.specs.Of.Vec.{vec-items};
-ghost use Rattle.std.specs.Results.{Cases};
 ghost use Rattle.std.specs.Vec.{made};
-ghost use Rattle.listing.specs.declared.read.ReadFault.the-variants.{Memory};
-ghost use Rattle.listing.specs.Numbers.{after-byte, numbers-in, word-of, Reads, Fails};
+ghost use Rattle.listing.specs.Numbers.{after-byte, found-of, numbers-in, word-of};
 use std::alloc::AllocError;
 use std::alloc::Global;
-use std::alloc::Refused;
 
-// Why a text gives no numbers.
+// The first byte, by its place from 0, that is no white space and no digit of a number below 2^32.
 #[derive(Clone, Copy, PartialEq, Eq, Debug)]
-pub enum ReadFault {
-    // There is no memory for them.
-    Memory,
-    // The byte at this place, from 0, is no white space and no digit of a number below 2^32.
-    Byte(usize),
-}
-
-pub impl From<AllocError> for ReadFault as ReadFaultFromAlloc {
-    ghost converts = { λ _ r. r ≡ Memory };
-
-    fn from(_e: AllocError) -> ReadFault {
-        ReadFault::Memory
-    }
-}
-
-pub impl<T: Drop> From<Refused<T>> for ReadFault as ReadFaultFromRefused {
-    ghost converts = { λ _ r. r ≡ Memory };
-
-    fn from(_e: Refused<T>) -> ReadFault {
-        ReadFault::Memory
-    }
+pub struct BadByte {
+    pub at: usize,
 }
 
 // What a byte makes of the number before it.
@@ -60,8 +38,8 @@ fn step(word: Option<u32>, byte: u8) -> Progress
 }
 
 // Puts the number of a word, where there is one, behind the others.
-fn part(found: &mut Vec<u32>, word: Option<u32>) -> Result<(), ReadFault>
-    ensures { λ r. ⌜ Cases r (λ _. vec-items (now (found .exit)) ≡ vec-items (now (found .entry)) ++ word-of word) (λ e. e ≡ Memory) ⌝ }
+fn part(found: &mut Vec<u32>, word: Option<u32>) -> Result<(), AllocError>
+    ensures { λ r. ⌜ made r (λ _. vec-items (now (found .exit)) ≡ vec-items (now (found .entry)) ++ word-of word) ⌝ }
 {
     let Some(n) = word else {
         return Ok(());
@@ -70,9 +48,9 @@ fn part(found: &mut Vec<u32>, word: Option<u32>) -> Result<(), ReadFault>
     Ok(())
 }
 
-// The numbers of a text, in order.
-pub fn numbers(heap: Global, text: &[u8]) -> Result<Vec<u32>, ReadFault>
-    ensures { λ r. ⌜ Cases r (λ v. Reads (now (text .entry)) (vec-items v)) (λ e. Fails (now (text .entry)) e) ⌝ }
+// The numbers of a text, in order, or its first bad byte.
+pub fn numbers(heap: Global, text: &[u8]) -> Result<Result<Vec<u32>, BadByte>, AllocError>
+    ensures { λ r. ⌜ made r (λ x. found-of x ≡ numbers-in (now (text .entry))) ⌝ }
 {
     let mut found = Vec::new(heap);
     let mut word = None;
@@ -83,9 +61,9 @@ pub fn numbers(heap: Global, text: &[u8]) -> Result<Vec<u32>, ReadFault>
                 part(&mut found, word)?;
                 word = None;
             }
-            Progress::Bad => return Err(ReadFault::Byte(at)),
+            Progress::Bad => return Ok(Err(BadByte { at })),
         }
     }
     part(&mut found, word)?;
-    Ok(found)
+    Ok(Ok(found))
 }

@@ -8,7 +8,7 @@ use Rattle.listing.proofs.read.numbers.Needs as need
 use Rattle.listing.proofs.read.numbers.Needs.{in-Grown, in-Parted·in-Continue-part}
 
 pub returns-in-Bad : need.returns-in-Bad
-returns-in-Bad c = sym (c .loop-at .inv) ∙ bad (vec-items (c .loop-at .found)) (c .loop-at .word) (c .args .text .now) (c .loop-at .at) (c .loop-at-test .taken) (sym (c .in-Bad .ensures tt))
+returns-in-Bad c = sym (sym (c .loop-at .inv) ∙ bad (vec-items (c .loop-at .found)) (c .loop-at .word) (c .args .text .now) (c .loop-at .at) (c .loop-at-test .taken) (sym (c .in-Bad .ensures tt)))
 
 same : {xs ys : List ℕ} {v w : Option ℕ} → xs ≡ ys → v ≡ w → (bs : List ℕ) (k : ℕ) → rest-gives xs v bs (k + 1) ≡ rest-gives ys w bs (k + 1)
 same a b bs k = rw (a, b) refl
@@ -24,4 +24,4 @@ loop-at-again c =
     ]
 
 pub returns : need.returns
-returns c = sym (c .loop-at .inv) ∙ ended (vec-items (c .loop-at .found)) (c .loop-at .word) (c .args .text .now) (c .loop-at .at) _ (c .loop-at-test .left) (c .in-Continue-part-2 .ensures tt)
+returns c = sym (sym (c .loop-at .inv) ∙ ended (vec-items (c .loop-at .found)) (c .loop-at .word) (c .args .text .now) (c .loop-at .at) _ (c .loop-at-test .left) (c .in-Continue-part-2 .ensures tt))

@@ -7,7 +7,7 @@ use Rattle.std.specs.Of.Vec.{vec-items}
 use Rattle.std.proofs.shelf.Lists.{drop-more, drop-all}
 use Rattle.run.specs.declared.answer.Event.{Event}
 use Rattle.run.specs.declared.answer.Event.the-variants.{Touch}
-use Rattle.rig.proofs.touches.Needs as need
+use Rattle.listing.proofs.listing.touches.Needs as need
 
 more : (xs ys : List Event) (ps : List ℕ) (i : ℕ) → i < length ps → ys ≡ xs ++ Touch (getD ps i 0) ∷ [] → ys ++ map Touch (drop (i + 1) ps) ≡ xs ++ map Touch (drop i ps)
 more xs ys ps i h e = rw (e, append-assoc, drop-more ps i 0 h)

@@ -4,7 +4,7 @@ use Prim.Native.Nat.{_≤_}
 use lib.ListN.{length, drop}
 use Rattle.std.specs.Of.Vec.{vec-items, vec-len, vec-cap}
 use Rattle.run.specs.declared.answer.Event.the-variants.{Touch}
-use Rattle.rig.proofs.touches.Given as given
+use Rattle.listing.proofs.listing.touches.Given as given
 
 abbrev pub Inv-loop-page : given.InvT-loop-page
 Inv-loop-page l =
