@@ -110,7 +110,10 @@ fn play_numbers(heap: Global, numbers: &[u32]) -> Result<String, AllocError>
     ensures { λ r. ⌜ made r (λ s. string-bytes s ≡ by-numbers (Ok (now (numbers .entry)))) ⌝ }
 {
     let [frames, pages @ ..] = numbers else {
-        return format!(heap, "no frames: the first number says how many there are\n");
+        return format!(
+            heap,
+            "no frames: the first number says how many there are\n"
+        );
     };
     play_framed(heap, *frames, pages)
 }
@@ -123,7 +126,10 @@ pub fn listing(heap: Global, text: &[u8]) -> Result<String, AllocError>
         Ok(found) => play_numbers(heap, found.as_slice()),
         Err(bad) => {
             let at = bad.at;
-            format!(heap, "malformed input: byte {at} is part of no number below 4294967296\n")
+            format!(
+                heap,
+                "malformed input: byte {at} is part of no number below 4294967296\n"
+            )
         }
     }
 }
@@ -136,12 +142,24 @@ mod tests {
     // Each text with what is printed of it.
     const CASES: [(&[u8], &str); 7] = [
         (b"2 1 2 1 3", "f 1\nf 2\nh 1\nf 3 1\nend 4 3 1\n"),
-        (b"\t1 4096\n7 70000 7\r\n", "no 1\nf 7\nno 1\nh 7\nend 2 1 0\n"),
+        (
+            b"\t1 4096\n7 70000 7\r\n",
+            "no 1\nf 7\nno 1\nh 7\nend 2 1 0\n",
+        ),
         (b"1025 1", "no 3\n"),
         (b"0", "no 3\n"),
-        (b" \n", "no frames: the first number says how many there are\n"),
-        (b"2 1 x", "malformed input: byte 4 is part of no number below 4294967296\n"),
-        (b"1 4294967296", "malformed input: byte 11 is part of no number below 4294967296\n"),
+        (
+            b" \n",
+            "no frames: the first number says how many there are\n",
+        ),
+        (
+            b"2 1 x",
+            "malformed input: byte 4 is part of no number below 4294967296\n",
+        ),
+        (
+            b"1 4294967296",
+            "malformed input: byte 11 is part of no number below 4294967296\n",
+        ),
     ];
 
     #[test]

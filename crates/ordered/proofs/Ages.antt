@@ -30,18 +30,20 @@ Rising f (x ∷ xs) = ((q : ℕ) → has q xs ≡ true → f x < f q) × Rising 
 
 rising-same : (f g : ℕ → ℕ) (xs : List ℕ) → ((q : ℕ) → has q xs ≡ true → g q ≡ f q) → Rising f xs → Rising g xs
 rising-same f g [] e r = tt
-rising-same f g (x ∷ xs) e r =
-    ((λ q h. let a = e q (grind (arith, tells)) in let b = e x (grind (arith, tells)) in let c = r .0 q h in omega arith),
-     rising-same f g xs (λ q h. e q (grind (arith, tells))) (r .1))
+rising-same f g (x ∷ xs) e r = (
+  (λ q h. let a = e q (grind (arith, tells)) in let b = e x (grind (arith, tells)) in let c = r .0 q h in omega arith),
+  rising-same f g xs (λ q h. e q (grind (arith, tells))) (r .1),
+)
 
 rising-push : (f : ℕ → ℕ) (p : ℕ) (xs : List ℕ) → ((q : ℕ) → has q xs ≡ true → f q < f p) → Rising f xs → Rising f (xs ++ p ∷ [])
 rising-push f p [] l r = ((λ q h. let z : _≡_ {A = ℕ} 0 1 = cc in absurd (omega arith)), tt)
-rising-push f p (x ∷ xs) l r =
-    ((λ q h. let e = has-push q p xs in elim (cases-bool (has q xs)) [
-        | inl k ↦ r .0 q k
-        | inr k ↦ let i : p ≡ q = grind (arith, tells) in subst (λ n. f x < f n) i (l x (grind (arith, tells)))
-      ]),
-     rising-push f p xs (λ q h. l q (grind (arith, tells))) (r .1))
+rising-push f p (x ∷ xs) l r = (
+  (λ q h. let e = has-push q p xs in elim (cases-bool (has q xs)) [
+    | inl k ↦ r .0 q k
+    | inr k ↦ let i : p ≡ q = grind (arith, tells) in subst (λ n. f x < f n) i (l x (grind (arith, tells)))
+  ]),
+  rising-push f p xs (λ q h. l q (grind (arith, tells))) (r .1),
+)
 
 rising-without : (f : ℕ → ℕ) (p : ℕ) (xs : List ℕ) → sound xs ≡ true → Rising f xs → Rising f (without p xs)
 rising-without f p [] s r = tt
@@ -100,7 +102,7 @@ module _ (b : Bool) (such : ℕ → Call → Bool) (k : Such b such) where
     put : (c : Call) (p : ℕ) (xs : List ℕ) → ((q : ℕ) → such q c ≡ eqb p q) → has p xs ≡ false → Rising f xs → Rising (more n f c true) (xs ++ p ∷ [])
     put c p xs e h r =
         let other : (q : ℕ) → has q xs ≡ true → more n f c true q ≡ f q =
-            λ q w. let d : such q c ≡ false = e q ∙ ne-eqb p q (λ z. true≢false (sym w ∙ ap (λ y. has y xs) (sym z) ∙ h)) in rw d refl in
+        λ q w. let d : such q c ≡ false = e q ∙ ne-eqb p q (λ z. true≢false (sym w ∙ ap (λ y. has y xs) (sym z) ∙ h)) in rw d refl in
         let last : more n f c true p ≡ n + 1 = let d : such p c ≡ true = e p ∙ eq-eqb p p refl in rw d refl in
         rising-push (more n f c true) p xs (λ q w. omega (arith, other q w, low q, last)) (rising-same f (more n f c true) xs other r)
 

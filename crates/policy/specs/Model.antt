@@ -66,6 +66,10 @@ unless None before after = after
 unless (Some f) before after = before
 
 module _ (m : Model) where
+  -- the checks of each call, in their order
+  abbrev pub absent-refusal : m .State → ℕ → Option PolicyFault
+  absent-refusal s p = refuse-if (leb 4096 p) NotAPage (refuse-if (has p (m .pages s)) AlreadyHeld None)
+
   abbrev pub fault-refusal : m .State → ℕ → Option PolicyFault
   fault-refusal s p = refuse-if (leb 4096 p) NotAPage (refuse-if (has p (m .pages s)) AlreadyHeld (refuse-if (leb 16000000 (m .count s)) TooManyFaults None))
 

@@ -5,5 +5,4 @@ use crate::policy::Policy;
 // A sound standing stays sound, a cleared policy is as a new one, and a refused call changes nothing.
 pub fn policy_laws<P: Policy>()
     ensures { λ _. ⌜ Policy-laws model ⌝ }
-{
-}
+{}

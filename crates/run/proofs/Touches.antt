@@ -188,7 +188,8 @@ module _ (m : Model) (l : Lawful m) where
                 held = sym (fault-effect .0 .members q) ∙ g .held;
                 members = λ x. let i = g .members x in let j = fault-effect .0 .members x in grind (arith, tells);
                 shorter = omega (arith, g .shorter, level);
-                stays = g .stays });
+                stays = g .stays;
+              });
               comes = comes;
             }
 

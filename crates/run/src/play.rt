@@ -21,7 +21,12 @@ pub struct Played<P> {
 }
 
 // Opens a run and performs each of the events.
-pub fn play<P: Policy + Drop>(heap: Global, settings: Settings, policy: P, events: &[Event]) -> Result<Played<P>, AllocError>
+pub fn play<P: Policy + Drop>(
+    heap: Global,
+    settings: Settings,
+    policy: P,
+    events: &[Event],
+) -> Result<Played<P>, AllocError>
     ensures answers { λ r. ⌜ made r (λ d. vec-items (d .answers) ≡ answers model (opened model (settings .frames) (standing policy)) (now (events .entry))) ⌝ }
     ensures after { λ r. ⌜ made r (λ d. run-of standing (d .run) ≡ run-after model (opened model (settings .frames) (standing policy)) (now (events .entry))) ⌝ }
     ensures laws { λ _. ⌜ Run-laws model ⌝ }

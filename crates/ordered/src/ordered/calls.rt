@@ -1,16 +1,15 @@
 // The calls of a policy over an order.
 ghost use mathlib.Core.Path.{_≡_};
 ghost use Rattle.policy.specs.Laws.{Sound};
+ghost use Rattle.policy.specs.Model.{answer, absent-refusal, held-refusal};
 ghost use Rattle.ordered.specs.Ordered.{ordered, state-of};
 use super::Ordered;
 use crate::order::PageOrder;
 use policy::fault::PolicyFault;
+use policy::limits::MOST_FAULTS;
+use policy::limits::MOST_PAGES;
+use policy::limits::PAGES;
 use policy::policy::Policy;
-
-// The most faults that a policy accepts, the most pages that it holds, and the number from which there is no page.
-const MOST_FAULTS: u32 = 16_000_000;
-const MOST_PAGES: u16 = 1024;
-const PAGES: u32 = 4096;
 
 impl<O: PageOrder> Ordered<O> {
     // A policy over the order, which is cleared.
@@ -20,6 +19,32 @@ impl<O: PageOrder> Ordered<O> {
     {
         order.clear();
         Ordered { order, faults: 0 }
+    }
+
+    // Refuses what is no page, and what is held.
+    fn check_absent(&self, page: u32) -> Result<(), PolicyFault>
+        ensures { λ r. ⌜ r ≡ answer (absent-refusal (ordered orders) (state-of placed (now (self .entry))) page) ⌝ }
+    {
+        if page >= PAGES {
+            return Err(PolicyFault::NotAPage);
+        }
+        if self.order.contains(page) {
+            return Err(PolicyFault::AlreadyHeld);
+        }
+        Ok(())
+    }
+
+    // Refuses what is no page, and what is not held.
+    fn check_held(&self, page: u32) -> Result<(), PolicyFault>
+        ensures { λ r. ⌜ r ≡ answer (held-refusal (ordered orders) (state-of placed (now (self .entry))) page) ⌝ }
+    {
+        if page >= PAGES {
+            return Err(PolicyFault::NotAPage);
+        }
+        if !self.order.contains(page) {
+            return Err(PolicyFault::NotHeld);
+        }
+        Ok(())
     }
 }
 
@@ -34,12 +59,7 @@ pub impl<O: PageOrder> Policy for Ordered<O> as OrderedPolicy {
     }
 
     fn fault(&mut self, page: u32) -> Result<(), PolicyFault> {
-        if page >= PAGES {
-            return Err(PolicyFault::NotAPage);
-        }
-        if self.order.contains(page) {
-            return Err(PolicyFault::AlreadyHeld);
-        }
+        self.check_absent(page)?;
         if self.faults >= MOST_FAULTS {
             return Err(PolicyFault::TooManyFaults);
         }
@@ -48,12 +68,7 @@ pub impl<O: PageOrder> Policy for Ordered<O> as OrderedPolicy {
     }
 
     fn load(&mut self, page: u32) -> Result<(), PolicyFault> {
-        if page >= PAGES {
-            return Err(PolicyFault::NotAPage);
-        }
-        if self.order.contains(page) {
-            return Err(PolicyFault::AlreadyHeld);
-        }
+        self.check_absent(page)?;
         if self.order.len() >= MOST_PAGES {
             return Err(PolicyFault::Full);
         }
@@ -62,23 +77,13 @@ pub impl<O: PageOrder> Policy for Ordered<O> as OrderedPolicy {
     }
 
     fn hit(&mut self, page: u32) -> Result<(), PolicyFault> {
-        if page >= PAGES {
-            return Err(PolicyFault::NotAPage);
-        }
-        if !self.order.contains(page) {
-            return Err(PolicyFault::NotHeld);
-        }
+        self.check_held(page)?;
         self.order.touch(page);
         Ok(())
     }
 
     fn drop(&mut self, page: u32) -> Result<(), PolicyFault> {
-        if page >= PAGES {
-            return Err(PolicyFault::NotAPage);
-        }
-        if !self.order.contains(page) {
-            return Err(PolicyFault::NotHeld);
-        }
+        self.check_held(page)?;
         self.order.remove(page);
         Ok(())
     }

@@ -11,10 +11,14 @@ use crate::answer::Figures;
 use crate::answer::Touched;
 use crate::closed::ClosedRun;
 use policy::fault::PolicyFault;
+use policy::limits::PAGES;
 use policy::policy::Policy;
 use settings::fault::RunFault;
 use settings::fault::RunFaultFromPolicy;
 use settings::settings::Settings;
+
+// The most touches that a run accepts.
+const MOST_TOUCHES: u32 = 16_000_000;
 
 impl<P: Policy> OpenRun<P> {
     // Clears the policy and begins with an empty memory.
@@ -40,10 +44,10 @@ impl<P: Policy> OpenRun<P> {
         ensures after { λ _. ⌜ run-of standing (now (self .exit)) ≡ touch-after model (run-of standing (now (self .entry))) page ⌝ }
         ensures told { λ r. ⌜ (Within model (run-of standing (now (self .entry))) → Touch-told model (run-of standing (now (self .entry))) page (touched r) (run-of standing (now (self .exit)))) ⌝ }
     {
-        if page >= 4096 {
+        if page >= PAGES {
             return Err(RunFault::NotAPage);
         }
-        if self.figures.touches >= 16_000_000 {
+        if self.figures.touches >= MOST_TOUCHES {
             return Err(RunFault::TooManyTouches);
         }
         if self.policy.holds(page) {

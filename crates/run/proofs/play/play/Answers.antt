@@ -12,11 +12,12 @@ loop-event-again g c =
     let m = g .P·Policy .model in
     let i = c .loop-event .inv in
     let es = c .args .events .now in
-    let n = c .loop-event .event-index in
-    (next-after m _ _ es n _ (c .loop-event-test .taken) (c .perform-answer .ensures .after) ∙ i .0,
-     next-answers m _ _ es n _ (c .loop-event-test .taken) (c .perform-answer .ensures .after) _ _ _ (c .perform-answer .ensures .answer) (c .push-reserved .ensures .items) ∙ i .1,
-     omega arith,
-     omega arith)
+    let n = c .loop-event .event-index in (
+      next-after m _ _ es n _ (c .loop-event-test .taken) (c .perform-answer .ensures .after) ∙ i .0,
+      next-answers m _ _ es n _ (c .loop-event-test .taken) (c .perform-answer .ensures .after) _ _ _ (c .perform-answer .ensures .answer) (c .push-reserved .ensures .items) ∙ i .1,
+      omega arith,
+      omega arith,
+    )
 
 pub returns-in-Break-answers : need.returns-in-Break-answers
 returns-in-Break-answers g c =
