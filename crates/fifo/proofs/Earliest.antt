@@ -2,7 +2,7 @@
 use mathlib.Core.Path.{refl}
 use mathlib.Core.Bool.{false}
 use Rattle.policy.specs.Histories.{loads, Gives-earliest}
-use Rattle.ordered.proofs.Ages.{gives-earliest}
+use Rattle.line.proofs.Ages.{gives-earliest}
 use Rattle.fifo.specs.Fifo.{fifo}
 
 pub fifo-earliest : Gives-earliest fifo loads

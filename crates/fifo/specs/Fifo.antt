@@ -4,10 +4,10 @@ use mathlib.Core.Bool.{false}
 use Prim.Native.Nat.{ℕ}
 use Rattle.pages.specs.Queue.{pages-of}
 use Rattle.policy.specs.Model.{Model}
-use Rattle.ordered.specs.declared.line.Line.{Line}
+use Rattle.line.specs.declared.line.Line.{Line}
 use Rattle.ordered.specs.declared.ordered.Ordered.{Ordered}
-use Rattle.ordered.specs.declared.renewal.ByLoad.{ByLoad}
-use Rattle.ordered.specs.Line.{line}
+use Rattle.line.specs.declared.renewal.ByLoad.{ByLoad}
+use Rattle.line.specs.Line.{line}
 use Rattle.ordered.specs.Ordered.{Kept, ordered, state-of}
 
 abbrev pub fifo : Model

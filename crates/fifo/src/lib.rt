@@ -4,11 +4,11 @@ ghost use Rattle.std.specs.Vec.{made};
 ghost use Rattle.policy.specs.Histories.{loads, Gives-earliest};
 ghost use Rattle.policy.specs.Laws.{Sound};
 ghost use Rattle.fifo.specs.Fifo.{fifo, fifo-of};
-use ordered::line::Line;
-use ordered::line::LineOrder;
+use line::line::Line;
+use line::line::LineOrder;
 use ordered::ordered::Ordered;
-use ordered::renewal::ByLoad;
-use ordered::renewal::ByLoadRenewal;
+use line::renewal::ByLoad;
+use line::renewal::ByLoadRenewal;
 use std::alloc::AllocError;
 use std::alloc::Global;
 

@@ -19,9 +19,9 @@ use Rattle.policy.specs.Laws.{Lawful, Sound}
 use Rattle.policy.specs.Histories.{loads, uses, passed, reached, latest, Gives-earliest}
 use Rattle.policy.proofs.Checks.{load-facts, held-facts}
 use Rattle.policy.proofs.Calls.{accepted-sound, after-sound}
 use Rattle.ordered.specs.Orders.{Lawful-order}
 use Rattle.ordered.specs.Ordered.{ordered, kept}
-use Rattle.ordered.specs.Line.{line}
+use Rattle.line.specs.Line.{line}
 
 -- each page of the list has a smaller number than those behind it
 abbrev Rising : (ℕ → ℕ) → List ℕ → Type 0

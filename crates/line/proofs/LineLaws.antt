@@ -14,8 +14,8 @@ use Rattle.std.proofs.shelf.Ways.{tells}
 use Rattle.pages.specs.Lists.{has, sound, without, first, rest, Adds, Keeps, Takes}
 use Rattle.pages.proofs.ListLaws.{has-small, adds-push, takes-without, takes-rest, without-absent}
 use Rattle.policy.specs.Laws.{Gives}
 use Rattle.ordered.specs.Orders.{Lawful-order}
-use Rattle.ordered.specs.Line.{line}
+use Rattle.line.specs.Line.{line}
 
 -- p leaves and comes in again
 pub keeps-again : (p : ℕ) (xs ys zs : List ℕ) → Takes p xs ys → Adds p ys zs → Keeps xs zs
