@@ -6,9 +6,9 @@ ghost use Rattle.policy.specs.Laws.{Sound};
 ghost use Rattle.fifo.specs.Fifo.{fifo, fifo-of};
 use line::line::Line;
 use line::line::LineOrder;
-use ordered::ordered::Ordered;
 use line::renewal::ByLoad;
 use line::renewal::ByLoadRenewal;
+use ordered::ordered::Ordered;
 use std::alloc::AllocError;
 use std::alloc::Global;
 

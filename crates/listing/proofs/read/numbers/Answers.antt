@@ -1,8 +1,10 @@
+use borrow.Author.Needs.{needs}
 use mathlib.Core.Path.{_≡_, refl, sym, ap, _∙_}
 use mathlib.Core.List.{List}
 use Prim.Native.Nat.{ℕ, _+_}
 use Rattle.std.specs.Of.Vec.{vec-items}
 use Rattle.std.specs.declared.option.Option.{Option}
+use Rattle.std.proofs.shelf.Results.{made-from-err}
 use Rattle.listing.proofs.Reading.{rest-gives, grown, parted, bad, ended}
 use Rattle.listing.proofs.read.numbers.Needs as need
 use Rattle.listing.proofs.read.numbers.Needs.{in-Grown, in-Parted·in-Continue-part}
@@ -22,6 +24,12 @@ loop-at-again c =
       | in-Grown w ↦ same (ap vec-items (w .found-is)) (w .word-is) bs k ∙ grown xs (c .loop-at .word) bs k (w .in-Grown .n) (c .loop-at-test .taken) (sym (w .in-Grown .ensures tt)) ∙ c .loop-at .inv
       | in-Parted·in-Continue-part w ↦ same (ap vec-items (w .found-is)) (w .word-is) bs k ∙ parted xs (c .loop-at .word) bs k _ (c .loop-at-test .taken) (sym (w .in-Parted .ensures tt)) (w .in-Continue-part .ensures tt) ∙ c .loop-at .inv
     ]
+
+pub returns-in-Break-part : need.returns-in-Break-part
+returns-in-Break-part c = search (needs, made-from-err)
+
+pub returns-in-Break-part-2 : need.returns-in-Break-part-2
+returns-in-Break-part-2 c = search (needs, made-from-err)
 
 pub returns : need.returns
 returns c = sym (sym (c .loop-at .inv) ∙ ended (vec-items (c .loop-at .found)) (c .loop-at .word) (c .args .text .now) (c .loop-at .at) _ (c .loop-at-test .left) (c .in-Continue-part-2 .ensures tt))
