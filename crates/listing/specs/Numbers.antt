@@ -1,7 +1,7 @@
 -- The numbers of a text, parted by white space. Assumes nothing.
 use mathlib.Core.Path.{_≡_}
 use mathlib.Core.List.{List, [], _∷_, _++_}
-use mathlib.Core.Bool.{Bool, cond, _||_, _&&_}
+use mathlib.Core.Bool.{Bool, true, cond, _||_, _&&_}
 use Prim.Native.Nat.{ℕ, _+_, _-_, _*_, _^_}
 use lib.Dec.{eqb, leb, ltb}
 use Rattle.std.specs.declared.option.Option.{Option}
@@ -11,6 +11,7 @@ use Rattle.std.specs.declared.result.Result.the-variants.{Ok, Err}
 use Rattle.std.specs.declared.alloc.Global.{Global}
 use Rattle.std.specs.declared.vec.Vec.{Vec}
 use Rattle.std.specs.Of.Vec.{vec-items}
+use Rattle.std.specs.Written.{decimal}
 use Rattle.listing.specs.declared.read.BadByte.{BadByte}
 use Rattle.listing.specs.declared.read.Progress.{Progress}
 use Rattle.listing.specs.declared.read.Progress.the-variants.{Grown, Parted, Bad}
@@ -52,3 +53,16 @@ numbers-in bs = numbers-from 0 None bs
 abbrev pub found-of : Result (Vec ℕ Global) BadByte → Result (List ℕ) ℕ
 found-of (Ok v) = Ok (vec-items v)
 found-of (Err e) = Err (e .at)
+
+-- numbers spelled in decimal, each with a space behind it
+abbrev pub spelled : List ℕ → List ℕ
+spelled [] = []
+spelled (n ∷ ns) = decimal n ++ (32 ∷ spelled ns)
+
+abbrev pub small : List ℕ → Bool
+small [] = true
+small (n ∷ ns) = ltb n (2 ^ 32) && small ns
+
+-- numbers that are spelled out are read back
+abbrev pub Reads-back : Type 0
+Reads-back = (ns : List ℕ) → small ns ≡ true → numbers-in (spelled ns) ≡ Ok ns

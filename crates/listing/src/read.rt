@@ -3,7 +3,7 @@ ghost use mathlib.Core.Path.{_≡_};
 ghost use mathlib.Core.List.{_++_};
 ghost use Rattle.std.specs.Of.Vec.{vec-items};
 ghost use Rattle.std.specs.Vec.{made};
-ghost use Rattle.listing.specs.Numbers.{after-byte, found-of, numbers-in, word-of};
+ghost use Rattle.listing.specs.Numbers.{Reads-back, after-byte, found-of, numbers-in, word-of};
 use std::alloc::AllocError;
 use std::alloc::Global;
 
@@ -50,7 +50,8 @@ fn part(found: &mut Vec<u32>, word: Option<u32>) -> Result<(), AllocError>
 
 // The numbers of a text, in order, or its first bad byte.
 pub fn numbers(heap: Global, text: &[u8]) -> Result<Result<Vec<u32>, BadByte>, AllocError>
-    ensures { λ r. ⌜ made r (λ x. found-of x ≡ numbers-in (now (text .entry))) ⌝ }
+    ensures found { λ r. ⌜ made r (λ x. found-of x ≡ numbers-in (now (text .entry))) ⌝ }
+    ensures back { λ _. ⌜ Reads-back ⌝ }
 {
     let mut found = Vec::new(heap);
     let mut word = None;

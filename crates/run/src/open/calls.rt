@@ -2,7 +2,7 @@
 ghost use mathlib.Core.Path.{_≡_};
 ghost use Prim.Native.Nat.{_<_};
 ghost use Rattle.run.specs.Run.{run-of, opened, hit-answer, hit-after, fault-answer, fault-after, touch-answer, touch-after, release-answer, release-after, event-answer, event-after, sent-out, with-room};
-ghost use Rattle.run.specs.Laws.{Within, Touch-told, Release-told};
+ghost use Rattle.run.specs.Laws.{Within, Touch-told, Release-told, Event-told};
 ghost use Rattle.run.specs.Answers.{touched, freed};
 use super::OpenRun;
 use crate::answer::Answer;
@@ -70,6 +70,7 @@ impl<P: Policy> OpenRun<P> {
     pub fn perform(&mut self, event: Event) -> Answer
         ensures answer { λ r. ⌜ r ≡ event-answer model (run-of standing (now (self .entry))) event ⌝ }
         ensures after { λ _. ⌜ run-of standing (now (self .exit)) ≡ event-after model (run-of standing (now (self .entry))) event ⌝ }
+        ensures told { λ r. ⌜ (Within model (run-of standing (now (self .entry))) → Event-told model (run-of standing (now (self .entry))) event r (run-of standing (now (self .exit)))) ⌝ }
     {
         match event {
             Event::Touch(page) => match self.touch(page) {

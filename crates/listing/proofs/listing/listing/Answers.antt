@@ -6,5 +6,5 @@ use Rattle.listing.proofs.listing.listing.Needs as need
 
 pub returns-in-Err : need.returns-in-Err
 returns-in-Err c =
-    let e : numbers-in (c .args .text .now) ≡ Err (c .in-Err .bad .at) = sym (c .in-Continue-found .ensures tt) ∙ ap found-of (c .in-Err .is) in
+    let e : numbers-in (c .args .text .now) ≡ Err (c .in-Err .bad .at) = sym (c .in-Continue-found .ensures tt .found) ∙ ap found-of (c .in-Err .is) in
     rw e (search needs)
