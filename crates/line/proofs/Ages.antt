@@ -16,7 +16,7 @@ use Rattle.pages.proofs.ListLaws.{has-push, has-without, sound-push, sound-with
 use Rattle.policy.specs.declared.fault.PolicyFault.{PolicyFault}
 use Rattle.policy.specs.Model.{Model, Call, clear, fault, load, hit, drop, give, refusal, accepted, after, unless}
 use Rattle.policy.specs.Laws.{Lawful, Sound}
-use Rattle.policy.specs.Histories.{loads, uses, passed, reached, latest, Gives-earliest}
+use Rattle.policy.specs.Histories.{passed, reached, latest, Gives-earliest}
 use Rattle.policy.proofs.Checks.{load-facts, held-facts}
 use Rattle.policy.proofs.Calls.{accepted-sound, after-sound}
 use Rattle.ordered.specs.Orders.{Lawful-order}
@@ -74,7 +74,7 @@ neither : (a : Bool) (x y : ℕ) → cond (a && false) x y ≡ y
 neither true x y = refl
 neither false x y = refl
 
--- such calls are the loads, and where uses renew, the hits too
+-- such calls are the loads, and where hits renew, the hits too
 pub record Such (b : Bool) (such : ℕ → Call → Bool) : Type 0 where
   pub on-clear : (q : ℕ) → such q clear ≡ false
   pub on-fault : (q p : ℕ) → such q (fault p) ≡ false

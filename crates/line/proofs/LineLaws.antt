@@ -43,7 +43,7 @@ pub line-lawful : (b : Bool) → Lawful-order (line b)
 line-lawful b = record {
   empty-pages = refl;
   put-adds = λ xs p s l h. adds-push p xs s l h;
-  use-keeps = λ xs p s h. used b p xs s h;
+  hit-keeps = λ xs p s h. used b p xs s h;
   remove-takes = λ xs p s h. takes-without p xs s h;
   take-gives = taken;
 }

@@ -1,4 +1,4 @@
-// Pages in a line: one that comes in joins the end, and so does one that is used, where uses renew. The first goes first.
+// Pages in a line: one that comes in joins the end, and so does one that is hit, where hits renew. The first goes first.
 ghost use mathlib.Core.Path.{_≡_};
 ghost use mathlib.Core.List.{[]};
 ghost use Rattle.std.specs.Vec.{made};
@@ -39,7 +39,7 @@ pub impl<R: Renewal> PageOrder for Line<R> as LineOrder {
         let _ = self.queue.push_back(page);
     }
 
-    fn touch(&mut self, page: u32) {
+    fn hit(&mut self, page: u32) {
         if self.renewal.renews() {
             let _ = self.queue.move_to_back(page);
         }

@@ -3,7 +3,7 @@ ghost use mathlib.Core.Path.{_≡_};
 ghost use mathlib.Core.Bool.{Bool, true, false};
 
 pub trait Renewal {
-    // Whether a use does, as a load does always.
+    // Whether a hit does; a load always does.
     ghost renews: { Bool };
 
     fn renews(&self) -> bool

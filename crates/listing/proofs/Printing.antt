@@ -13,7 +13,7 @@ use Rattle.run.specs.declared.answer.Answer.{Answer}
 use Rattle.listing.specs.Lines.{answer-line}
 use Rattle.listing.specs.Listing.{numbers-with, printed, by-settings, by-numbers}
 
-pub line-more : (out after : List ℕ) (ps : List ℕ) (xs : List Answer) (i : ℕ) (d : Answer) → i < length ps → i < length xs → after ≡ out ++ (answer-line (getD ps i 0) (getD xs i d) ++ 10 ∷ []) →
+pub line-more : (out after : List ℕ) (ps : List ℕ) (xs : List Answer) (i : ℕ) (d : Answer) → i < length ps → i < length xs → after ≡ out ++ answer-line (getD ps i 0) (getD xs i d) →
     after ++ printed (drop (i + 1) ps) (drop (i + 1) xs) ≡ out ++ printed (drop i ps) (drop i xs)
 line-more out after ps xs i d h k e = rw (e, drop-more ps i 0 h, drop-more xs i d k) (append-assoc out _ _)
 

@@ -25,14 +25,14 @@ numbers-with f = record { frames = f; long = 20; behind = 20; nth = 1; tracked =
 abbrev pub printed : List ℕ → List Answer → List ℕ
 printed [] xs = []
 printed (p ∷ ps) [] = []
-printed (p ∷ ps) (x ∷ xs) = (answer-line p x ++ 10 ∷ []) ++ printed ps xs
+printed (p ∷ ps) (x ∷ xs) = answer-line p x ++ printed ps xs
 
 -- the answers of the pages' touches, from an empty memory of f frames under FIFO, and then the totals
 abbrev pub fifo-answers : ℕ → List ℕ → List Answer
 fifo-answers f ps = answers fifo (opened fifo f (fifo .opening tt)) (map Touch ps)
 
 abbrev pub played : ℕ → List ℕ → List ℕ
-played f ps = printed ps (fifo-answers f ps) ++ (end-line (counted (fifo-answers f ps)) ++ 10 ∷ [])
+played f ps = printed ps (fifo-answers f ps) ++ end-line (counted (fifo-answers f ps))
 
 -- refused settings are one line
 abbrev pub by-settings : Result Numbers RunFault → ℕ → List ℕ → List ℕ

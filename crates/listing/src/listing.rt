@@ -53,11 +53,11 @@ fn touches(heap: Global, pages: &[u32]) -> Result<Vec<Event>, AllocError>
     Ok(events)
 }
 
-// Puts a printed line behind the others.
-fn put_line<L: Display + Drop>(out: &mut String, line: L) -> Result<(), AllocError>
-    ensures { λ r. ⌜ made r (λ _. BySome (shown line) (Unit {0}) (λ bs. string-bytes (now (out .exit)) ≡ string-bytes (now (out .entry)) ++ (bs ++ 10 ∷ []))) ⌝ }
+// Puts what is printed behind the rest.
+fn put<L: Display + Drop>(out: &mut String, line: L) -> Result<(), AllocError>
+    ensures { λ r. ⌜ made r (λ _. BySome (shown line) (Unit {0}) (λ bs. string-bytes (now (out .exit)) ≡ string-bytes (now (out .entry)) ++ bs)) ⌝ }
 {
-    match out.writeln(line) {
+    match out.write(line) {
         Ok(()) => Ok(()),
         Err(_) => Err(AllocError),
     }
@@ -74,7 +74,7 @@ fn lines(heap: Global, pages: &[u32], answers: &[Answer]) -> Result<String, Allo
             page: pages[at],
             answer: answers[at],
         };
-        put_line(&mut out, line)?;
+        put(&mut out, line)?;
     }
     Ok(out)
 }
@@ -88,7 +88,7 @@ fn play_pages(heap: Global, settings: Settings, pages: &[u32]) -> Result<String,
     let Played { answers, run } = play(heap, settings, policy, events.as_slice())?;
     let mut out = lines(heap, pages, answers.as_slice())?;
     let figures = run.close().figures();
-    put_line(&mut out, End { figures })?;
+    put(&mut out, End { figures })?;
     Ok(out)
 }
 

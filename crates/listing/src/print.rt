@@ -1,4 +1,4 @@
-// Printed lines.
+// Printed lines, each with its line end.
 ghost use mathlib.Core.List.{_++_};
 ghost use Rattle.std.specs.declared.option.Option.the-variants.{Some};
 ghost use Rattle.listing.specs.Lines.{answer-line, end-line};
@@ -7,7 +7,7 @@ use run::answer::Figures;
 use run::answer::Touched;
 use std::fmt;
 
-// The answer to a touch of a page.
+// The answer to an event of a page, with its line end. An accepted release prints nothing.
 #[derive(Clone, Copy)]
 pub struct Line {
     pub page: u32,
@@ -20,19 +20,19 @@ pub impl fmt::Display for Line as LineDisplay {
     fn fmt<W: fmt::Write>(&self, f: &mut fmt::Formatter<W>) -> fmt::Result {
         let page = self.page;
         match self.answer {
-            Answer::Touched(Touched::Hit) => write!(f, "h {page}"),
-            Answer::Touched(Touched::Fault) => write!(f, "f {page}"),
-            Answer::Touched(Touched::Replaced(out)) => write!(f, "f {page} {out}"),
-            Answer::Released => write!(f, "r {page}"),
+            Answer::Touched(Touched::Hit) => write!(f, "h {page}\n"),
+            Answer::Touched(Touched::Fault) => write!(f, "f {page}\n"),
+            Answer::Touched(Touched::Replaced(out)) => write!(f, "f {page} {out}\n"),
+            Answer::Released => Ok(()),
             Answer::Refused(fault) => {
                 let number = fault.number();
-                write!(f, "no {number}")
+                write!(f, "no {number}\n")
             }
         }
     }
 }
 
-// What a run came to.
+// What a run came to, with its line end.
 #[derive(Clone, Copy)]
 pub struct End {
     pub figures: Figures,
@@ -45,6 +45,6 @@ pub impl fmt::Display for End as EndDisplay {
         let touches = self.figures.touches;
         let faults = self.figures.faults;
         let outs = self.figures.outs;
-        write!(f, "end {touches} {faults} {outs}")
+        write!(f, "end {touches} {faults} {outs}\n")
     }
 }

@@ -4,10 +4,10 @@ ghost use mathlib.Core.Bool.{cond};
 ghost use lib.ListN.{length};
 ghost use Rattle.pages.specs.Lists.{has, joins};
 ghost use Rattle.policy.specs.Model.{capped};
-ghost use Rattle.ordered.specs.Orders.{Orders, Lawful-order};
+ghost use Rattle.ordered.specs.Orders.{OrderModel, Lawful-order};
 
 pub trait PageOrder {
-    ghost orders: { Orders };
+    ghost orders: { OrderModel };
 
     // The order that a value has.
     ghost placed: { Self → orders .Order };
@@ -22,9 +22,9 @@ pub trait PageOrder {
     fn put(&mut self, page: u32)
         ensures { λ _. ⌜ placed (now (self .exit)) ≡ cond (joins page (orders .pages (placed (now (self .entry))))) (orders .on-put (placed (now (self .entry))) page) (placed (now (self .entry))) ⌝ };
 
-    // Takes note of a use of a page.
-    fn touch(&mut self, page: u32)
-        ensures { λ _. ⌜ placed (now (self .exit)) ≡ cond (has page (orders .pages (placed (now (self .entry))))) (orders .on-use (placed (now (self .entry))) page) (placed (now (self .entry))) ⌝ };
+    // Takes note of a hit.
+    fn hit(&mut self, page: u32)
+        ensures { λ _. ⌜ placed (now (self .exit)) ≡ cond (has page (orders .pages (placed (now (self .entry))))) (orders .on-hit (placed (now (self .entry))) page) (placed (now (self .entry))) ⌝ };
 
     // Lets a page go.
     fn remove(&mut self, page: u32)

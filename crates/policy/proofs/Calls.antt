@@ -15,7 +15,7 @@ use Rattle.pages.specs.Lists.{has, sound, Takes}
 use Rattle.pages.proofs.ListLaws.{has-small}
 use Rattle.policy.specs.Model.{Model, Call, clear, fault, load, hit, drop, give, refusal, accepted, after, after-all, unless, capped, held}
 use Rattle.policy.specs.Laws.{Sound, Allowed, Effect, Gives, Lawful, replies, done, Policy-laws}
-use Rattle.policy.proofs.Checks.{fault-facts, load-facts}
+use Rattle.policy.proofs.Checks.{fault-facts, load-facts, checked}
 
 pub held-has : (p : ℕ) (xs : List ℕ) → sound xs ≡ true → held p xs ≡ has p xs
 held-has p xs s =
@@ -101,6 +101,7 @@ module _ (m : Model) (l : Lawful m) where
     clear-sound = λ s cs. all-sound (after m s clear) cs (accepted-sound s clear tt);
     clear-alike = λ s t e. ap (m .opening) e;
     forgets = λ s before cs g. ap (λ x. done ∷ replies m (m .opening x) cs) (all-settled s before g);
+    checked = checked m;
     refused-unchanged = unchanged;
     none-given = none-given;
     none-held = none-held;

@@ -5,9 +5,10 @@ use Prim.Native.Nat.{ℕ, _<_}
 use native.Mathlib.Omega.{arith}
 use lib.ListN.{length}
 use Rattle.std.specs.declared.option.Option.the-variants.{None}
-use Rattle.std.proofs.shelf.Tests.{lt-leb}
+use Rattle.std.proofs.shelf.Tests.{lt-leb, le-leb}
 use Rattle.std.proofs.shelf.Ways.{tells}
 use Rattle.pages.specs.Lists.{has}
+use Rattle.policy.specs.Laws.{Checked}
 use Rattle.policy.specs.Model.{Model, fault-refusal, load-refusal, held-refusal}
 
 module _ (m : Model) (s : m .State) (p : ℕ) where
@@ -28,3 +29,21 @@ module _ (m : Model) (s : m .State) (p : ℕ) where
 
   pub held-accepts : p < 4096 → has p (m .pages s) ≡ true → held-refusal m s p ≡ None
   held-accepts k h = rw (lt-leb 4096 p k, h) refl
+
+  pub checked : Checked m s p
+  checked = record {
+    fault-no-page = λ a. rw (le-leb 4096 p a) refl;
+    fault-held = λ a h. rw (lt-leb 4096 p a, h) refl;
+    fault-many = λ a h k. rw (lt-leb 4096 p a, h, le-leb 16000000 (m .count s) k) refl;
+    fault-accepted = λ a h k. rw (lt-leb 4096 p a, h, lt-leb 16000000 (m .count s) k) refl;
+    load-no-page = λ a. rw (le-leb 4096 p a) refl;
+    load-held = λ a h. rw (lt-leb 4096 p a, h) refl;
+    load-full = λ a h k. rw (lt-leb 4096 p a, h, le-leb 1024 (length (m .pages s)) k) refl;
+    load-accepted = λ a h k. rw (lt-leb 4096 p a, h, lt-leb 1024 (length (m .pages s)) k) refl;
+    hit-no-page = λ a. rw (le-leb 4096 p a) refl;
+    hit-absent = λ a h. rw (lt-leb 4096 p a, h) refl;
+    hit-accepted = λ a h. rw (lt-leb 4096 p a, h) refl;
+    drop-no-page = λ a. rw (le-leb 4096 p a) refl;
+    drop-absent = λ a h. rw (lt-leb 4096 p a, h) refl;
+    drop-accepted = λ a h. rw (lt-leb 4096 p a, h) refl;
+  }

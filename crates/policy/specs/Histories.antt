@@ -20,15 +20,6 @@ loads p (hit q) = false
 loads p (drop q) = false
 loads p give = false
 
--- whether a call is a load or a hit of p
-abbrev pub uses : ℕ → Call → Bool
-uses p clear = false
-uses p (fault q) = false
-uses p (load q) = eqb q p
-uses p (hit q) = eqb q p
-uses p (drop q) = false
-uses p give = false
-
 abbrev pub passed : Option PolicyFault → Bool
 passed None = true
 passed (Some f) = false

@@ -78,8 +78,9 @@ module _ (m : Model) (l : Lawful m) (r : Run (m .State)) (p : ℕ) (w : Within m
   told-of = record {
     no-page = λ a. ap (λ o. told (freed (up o (Ok tt)))) (no-page a);
     absent = λ a h. ap (λ o. told (freed (up o (Ok tt)))) (absent a h);
-    leaves = λ a h. (ap (λ o. told (freed (up o (Ok tt)))) (drop-none a h), subst (λ s. Takes p (memory m r) (m .pages s)) (sym (drop-ends a h)) (drop-effect a h .0));
+    leaves = λ a h. (ap (λ o. told (freed (up o (Ok tt)))) (drop-none a h), subst (λ s. Takes p (memory m r) (m .pages s)) (sym (drop-ends a h)) (drop-effect a h .0), refl);
     unchanged = unchanged;
+    frames = refl;
     within = release-within;
   }
 

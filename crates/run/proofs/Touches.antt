@@ -107,8 +107,11 @@ module _ (m : Model) (l : Lawful m) where
         hit-told : touch-answer m r p ≡ Ok Hit
         hit-told = cond-false _ _ _ (lt-leb 4096 p a) ∙ cond-false _ _ _ (lt-leb 16000000 _ b) ∙ cond-true _ _ _ h ∙ ap (λ o. up o (Ok Hit)) hit-none
 
+        hit-runs : touch-after m r p ≡ record { frames = r .frames; policy = after m (r .policy) (hit p); figures = count-hit (r .figures) }
+        hit-runs = cond-false _ _ _ (lt-leb 4096 p a) ∙ cond-false _ _ _ (lt-leb 16000000 _ b) ∙ cond-true _ _ _ h ∙ taken _ _ _ hit-none
+
         hit-ends : touch-after m r p ≡ record { frames = r .frames; policy = m .on-hit (r .policy) p; figures = count-hit (r .figures) }
-        hit-ends = cond-false _ _ _ (lt-leb 4096 p a) ∙ cond-false _ _ _ (lt-leb 16000000 _ b) ∙ cond-true _ _ _ h ∙ taken _ _ _ hit-none ∙ ap (λ s. let u : Run (m .State) = record { frames = r .frames; policy = s; figures = count-hit (r .figures) } in u) (taken _ _ _ hit-none)
+        hit-ends = hit-runs ∙ ap (λ s. let u : Run (m .State) = record { frames = r .frames; policy = s; figures = count-hit (r .figures) } in u) (taken _ _ _ hit-none)
 
         hit-effect : Keeps (memory m r) (m .pages (m .on-hit (r .policy) p)) × (m .count (m .on-hit (r .policy) p) ≡ m .count (r .policy))
         hit-effect = l .effects (r .policy) (hit p) (w .sound, hit-none)
@@ -143,8 +146,11 @@ module _ (m : Model) (l : Lawful m) where
         fault-told : touch-answer m r p ≡ Ok (fault-with (out m r p))
         fault-told = cond-false _ _ _ (lt-leb 4096 p a) ∙ cond-false _ _ _ (lt-leb 16000000 _ b) ∙ cond-false _ _ _ h ∙ ap (λ o. up o (up (refusal m (ready m r p) (load p)) (Ok (fault-with (out m r p))))) fault-none ∙ ap (λ o. up o (Ok (fault-with (out m r p)))) load-none
 
+        all-runs : touch-after m r p ≡ record { frames = r .frames; policy = after m (ready m r p) (load p); figures = count-fault (out m r p) (r .figures) }
+        all-runs = cond-false _ _ _ (lt-leb 4096 p a) ∙ cond-false _ _ _ (lt-leb 16000000 _ b) ∙ cond-false _ _ _ h ∙ taken _ _ _ fault-none ∙ taken _ _ _ load-none
+
         all-ends : touch-after m r p ≡ record { frames = r .frames; policy = m .on-load (ready m r p) p; figures = count-fault (out m r p) (r .figures) }
-        all-ends = cond-false _ _ _ (lt-leb 4096 p a) ∙ cond-false _ _ _ (lt-leb 16000000 _ b) ∙ cond-false _ _ _ h ∙ taken _ _ _ fault-none ∙ taken _ _ _ load-none ∙ ap (λ s. let u : Run (m .State) = record { frames = r .frames; policy = s; figures = count-fault (out m r p) (r .figures) } in u) (taken _ _ _ load-none)
+        all-ends = all-runs ∙ ap (λ s. let u : Run (m .State) = record { frames = r .frames; policy = s; figures = count-fault (out m r p) (r .figures) } in u) (taken _ _ _ load-none)
 
         load-effect : Adds p (m .pages (ready m r p)) (m .pages (m .on-load (ready m r p) p)) × (m .count (m .on-load (ready m r p) p) ≡ m .count (ready m r p))
         load-effect = l .effects (ready m r p) (load p) (room .sound, load-none)
@@ -166,10 +172,13 @@ module _ (m : Model) (l : Lawful m) where
         free-out : length (memory m r) < r .frames → out m r p ≡ None
         free-out k = ap (sent-out m (r .frames)) fault-ends ∙ cond-true _ _ _ (lt-ltb (length (m .pages (m .on-fault (r .policy) p))) (r .frames) (omega (arith, level)))
 
+        free-ready : length (memory m r) < r .frames → ready m r p ≡ faulted m r p
+        free-ready k = room-free (r .frames) p (faulted m r p) (omega (arith, level, ap (λ s. length (m .pages s)) fault-ends))
+
         -- the pages that the fault kept are those of before
         free-adds : length (memory m r) < r .frames → Adds p (memory m r) (memory m (touch-after m r p))
         free-adds k =
-            let e : ready m r p ≡ m .on-fault (r .policy) p = ap (with-room m (r .frames)) fault-ends ∙ room-free (r .frames) p _ (omega (arith, level)) in
+            let e : ready m r p ≡ m .on-fault (r .policy) p = free-ready k ∙ fault-ends in
             let d = subst (λ s. Adds p (m .pages s) (memory m (touch-after m r p))) e comes in
             record { members = λ q. let x = d .members q in let y = fault-effect .0 .members q in grind (arith, tells); longer = omega (arith, d .longer, level); stays = d .stays }
 
@@ -182,6 +191,8 @@ module _ (m : Model) (l : Lawful m) where
             let d : ready m r p ≡ m .on-give s = ap (with-room m (r .frames)) fault-ends ∙ room-full (r .frames) p s full in
             record {
               q = q;
+              given = ap (m .gives) fault-ends ∙ e;
+              policy = ap (λ (u : Run (m .State)). u .policy) all-runs ∙ ap (λ u. after m u (load p)) (room-full (r .frames) p (faulted m r p) (omega (arith, full, ap (λ u. length (m .pages u)) fault-ends)));
               answered = ap (λ x. told (touched x)) (fault-told ∙ ap (λ x. Ok (fault-with x)) o);
               others = m .pages (ready m r p);
               leaves = subst (λ t. Takes q (memory m r) (m .pages t)) (sym d) (record {
@@ -203,6 +214,17 @@ module _ (m : Model) (l : Lawful m) where
           ]
         ]
 
+    -- no touch changes the frames
+    touch-frames : touch-after m r p .frames ≡ r .frames
+    touch-frames =
+        elim (cases-lt p 4096) [
+          | inr a ↦ ap (λ (u : Run (m .State)). u .frames) (no-page-after a)
+          | inl a ↦ elim (cases-lt (r .figures .touches) 16000000) [
+            | inr b ↦ ap (λ (u : Run (m .State)). u .frames) (many-after a b)
+            | inl b ↦ elim (cases-bool (has p (memory m r))) [ inl h ↦ ap (λ (u : Run (m .State)). u .frames) (hit-runs a b h) | inr h ↦ ap (λ (u : Run (m .State)). u .frames) (all-runs a b h) ]
+          ]
+        ]
+
     unchanged : (f : ℕ) (k : Layer) → told (touched (touch-answer m r p)) ≡ say.refused f k → touch-after m r p ≡ r
     unchanged f k x =
         elim (cases-lt p 4096) [
@@ -220,10 +242,11 @@ module _ (m : Model) (l : Lawful m) where
     told-of = record {
       no-page = λ a. ap (λ o. told (touched o)) (no-page-told a);
       too-many = λ a b. ap (λ o. told (touched o)) (many-told a b);
-      hits = λ a b h. (ap (λ o. told (touched o)) (hit-told a b h), hit-keeps a b h);
-      loads = λ a b h k. (ap (λ o. told (touched o)) (fault-told a b h ∙ ap (λ o. Ok (fault-with o)) (free-out a b h k)), free-adds a b h k);
+      hits = λ a b h. (ap (λ o. told (touched o)) (hit-told a b h), hit-keeps a b h, ap (λ (u : Run (m .State)). u .policy) (hit-runs a b h));
+      loads = λ a b h k. (ap (λ o. told (touched o)) (fault-told a b h ∙ ap (λ o. Ok (fault-with o)) (free-out a b h k)), free-adds a b h k, ap (λ (u : Run (m .State)). u .policy) (all-runs a b h) ∙ ap (λ u. after m u (load p)) (free-ready a b h k));
       swaps = λ a b h k. swap a b h (m .gives (m .on-fault (r .policy) p)) refl k (l .effects (m .on-fault (r .policy) p) give (fault-sound a b h, refl) .0);
       unchanged = unchanged;
+      frames = touch-frames;
       within = touch-within;
     }
 

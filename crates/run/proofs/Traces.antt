@@ -127,9 +127,19 @@ module _ (m : Model) (l : Lawful m) where
   all-within r [] w = w
   all-within r (e ∷ es) w = all-within (event-after m r e) es (event-within r e w)
 
+  event-frames : (r : Run (m .State)) (e : Event) → Within m r → event-after m r e .frames ≡ r .frames
+  event-frames r (Touch p) w = event-told r (Touch p) w .frames
+  event-frames r (Release p) w = refl
+
+  all-frames : (r : Run (m .State)) (es : List Event) → Within m r → run-after m r es .frames ≡ r .frames
+  all-frames r [] w = refl
+  all-frames r (e ∷ es) w = all-frames (event-after m r e) es (event-within r e w) ∙ event-frames r e w
+
   pub run-laws : Run-laws m
   run-laws = record {
     within = λ n s es a b. all-within (opened m n s) es (opened-within m l n s a b);
+    most = λ n s es a b.
+        let o = opened-within m l n s a b in omega (arith, all-within (opened m n s) es o .framed, all-frames (opened m n s) es o);
     next = λ n s es e a b. event-told _ e (all-within (opened m n s) es (opened-within m l n s a b));
     counts = opened-counts m;
   }

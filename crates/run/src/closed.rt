@@ -1,6 +1,7 @@
 // A run that has ended.
 ghost use mathlib.Core.Path.{_≡_};
 use crate::answer::Figures;
+use policy::policy::Policy;
 
 #[derive(Drop)]
 pub struct ClosedRun<P> {
@@ -8,7 +9,7 @@ pub struct ClosedRun<P> {
     pub(crate) figures: Figures,
 }
 
-impl<P> ClosedRun<P> {
+impl<P: Policy> ClosedRun<P> {
     // What the run came to.
     pub fn figures(&self) -> Figures
         ensures { λ r. ⌜ r ≡ now (self .entry) .figures ⌝ }

@@ -6,4 +6,4 @@ pub returns-in-Break-line : need.returns-in-Break-line
 returns-in-Break-line c = record { opening = search needs; sound = search needs; earliest = fifo-earliest }
 
 pub returns : need.returns
-returns c = record { opening = c .new-2 .ensures .opening; sound = c .new-2 .ensures .sound; earliest = fifo-earliest }
+returns c = record { opening = search needs; sound = search needs; earliest = fifo-earliest }

@@ -78,7 +78,7 @@ pub impl<O: PageOrder> Policy for Ordered<O> as OrderedPolicy {
 
     fn hit(&mut self, page: u32) -> Result<(), PolicyFault> {
         self.check_held(page)?;
-        self.order.touch(page);
+        self.order.hit(page);
         Ok(())
     }
 

@@ -2,7 +2,7 @@
 ghost use mathlib.Core.Path.{_≡_};
 ghost use mathlib.Core.Bool.{_&&_};
 ghost use lib.Dec.{leb};
-ghost use Rattle.settings.specs.Checks.{seen, checked, in-ranges, within};
+ghost use Rattle.settings.specs.Checks.{seen, checked, in-ranges, within, Settings-told};
 use super::Settings;
 use crate::fault::RunFault;
 use crate::numbers::Numbers;
@@ -29,7 +29,8 @@ fn in_ranges(n: Numbers) -> bool
 impl Settings {
     // Settings of these numbers, or why there are none.
     pub fn new(n: Numbers) -> Result<Settings, RunFault>
-        ensures { λ r. ⌜ seen r ≡ checked n ⌝ }
+        ensures seen { λ r. ⌜ seen r ≡ checked n ⌝ }
+        ensures told { λ r. ⌜ Settings-told n (seen r) ⌝ }
     {
         if !in_ranges(n) {
             return Err(RunFault::OutOfRange);
