@@ -1,7 +1,7 @@
--- What is spelled out is read back. Assumes nothing.
+-- What is spelled out is read back, and only digits and white space are read. Assumes nothing.
 use mathlib.Core.Path.{_≡_, refl, sym, ap, _∙_}
 use mathlib.Core.List.{List, [], _∷_, _++_, append-assoc}
-use mathlib.Core.Bool.{Bool, true, false, cond, _&&_}
+use mathlib.Core.Bool.{Bool, true, false, cond, _&&_, _||_}
 use Prim.Native.Nat.{ℕ, _+_, _-_, _*_, _/_, _%_, _^_, _<_, _≤_}
 use native.Mathlib.Omega.{arith}
 use lib.ListN.{length}
@@ -13,8 +13,9 @@ use Rattle.std.specs.declared.result.Result.the-variants.{Ok, Err}
 use Rattle.std.specs.Written.{decimal}
 use Rattle.std.proofs.shelf.Decimals.{decimal-by-steps}
 use Rattle.std.proofs.shelf.Ways.{tells}
+use Rattle.listing.specs.declared.read.Progress.{Progress}
 use Rattle.listing.specs.declared.read.Progress.the-variants.{Grown, Parted, Bad}
-use Rattle.listing.specs.Numbers.{value-of, word-of, after-byte, before, numbers-from, spelled, small, Reads-back}
+use Rattle.listing.specs.Numbers.{is-space, is-digit, value-of, word-of, after-byte, before, numbers-from, spelled, small, plain, Reads-back, Reads-plain}
 
 -- a digit makes the next number
 digit-grows : (w : Option ℕ) (d n : ℕ) → d < 10 → value-of w * 10 + d ≡ n → n < 2 ^ 32 → after-byte w (48 + d) ≡ Grown n
@@ -47,3 +48,25 @@ all-back k (n ∷ ns) s =
 
 pub reads-back : Reads-back
 reads-back ns s = all-back 0 ns s
+
+before-ok : (xs : List ℕ) (r : Result (List ℕ) ℕ) (ns : List ℕ) → before xs r ≡ Ok ns → (ys : List ℕ) × (r ≡ Ok ys)
+before-ok xs (Ok ys) ns e = (ys, refl)
+before-ok xs (Err k) ns e = let z : _≡_ {A = ℕ} 0 1 = cc in absurd (omega arith)
+
+grown-digit : (w : Option ℕ) (b n : ℕ) → after-byte w b ≡ Grown n → is-digit b ≡ true
+grown-digit w b n e = grind (arith, tells)
+
+parted-space : (w : Option ℕ) (b : ℕ) → after-byte w b ≡ Parted → is-space b ≡ true
+parted-space w b e = grind (arith, tells)
+
+all-plain : (bs : List ℕ) (k : ℕ) (w : Option ℕ) (ns : List ℕ) → numbers-from k w bs ≡ Ok ns → plain bs ≡ true
+all-plain [] k w ns e = refl
+all-plain (b ∷ bs) k w ns e = by (after-byte w b) (λ v ms. all-plain bs (k + 1) v ms) refl e
+  where
+    by : (s : Progress) → ((v : Option ℕ) (ms : List ℕ) → numbers-from (k + 1) v bs ≡ Ok ms → plain bs ≡ true) → after-byte w b ≡ s → _≡_ {A = Result (List ℕ) ℕ} (elim s [ Grown n ↦ numbers-from (k + 1) (Some n) bs | Parted ↦ before (word-of w) (numbers-from (k + 1) None bs) | Bad ↦ Err k ]) (Ok ns) → plain (b ∷ bs) ≡ true
+    by (Grown n) ih a f = let d = grown-digit w b n a in let t = ih (Some n) ns f in grind (arith, tells)
+    by Parted ih a f = let d = parted-space w b a in let y = before-ok (word-of w) (numbers-from (k + 1) None bs) ns f in let t = ih None (y .0) (y .1) in grind (arith, tells)
+    by Bad ih a f = let z : _≡_ {A = ℕ} 0 1 = cc in absurd (omega arith)
+
+pub reads-plain : Reads-plain
+reads-plain bs ns e = all-plain bs 0 None ns e

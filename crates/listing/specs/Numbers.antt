@@ -66,3 +66,12 @@ small (n ∷ ns) = ltb n (2 ^ 32) && small ns
 -- numbers that are spelled out are read back
 abbrev pub Reads-back : Type 0
 Reads-back = (ns : List ℕ) → small ns ≡ true → numbers-in (spelled ns) ≡ Ok ns
+
+-- every byte is white space or a digit
+abbrev pub plain : List ℕ → Bool
+plain [] = true
+plain (b ∷ bs) = (is-space b || is-digit b) && plain bs
+
+-- a text with any other byte gives no numbers
+abbrev pub Reads-plain : Type 0
+Reads-plain = (bs ns : List ℕ) → numbers-in bs ≡ Ok ns → plain bs ≡ true

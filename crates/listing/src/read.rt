@@ -3,7 +3,7 @@ ghost use mathlib.Core.Path.{_≡_};
 ghost use mathlib.Core.List.{_++_};
 ghost use Rattle.std.specs.Of.Vec.{vec-items};
 ghost use Rattle.std.specs.Vec.{made};
-ghost use Rattle.listing.specs.Numbers.{Reads-back, after-byte, found-of, numbers-in, word-of};
+ghost use Rattle.listing.specs.Numbers.{Reads-back, Reads-plain, after-byte, found-of, numbers-in, word-of};
 use std::alloc::AllocError;
 use std::alloc::Global;
 
@@ -31,7 +31,7 @@ fn step(word: Option<u32>, byte: u8) -> Progress
         return Progress::Bad;
     }
     let grown = u64::from(word.unwrap_or(0)) * 10 + u64::from(byte - b'0');
-    if grown > 0xffff_ffff {
+    if grown > u64::from(u32::MAX) {
         return Progress::Bad;
     }
     Progress::Grown(grown as u32)
@@ -52,6 +52,7 @@ fn part(found: &mut Vec<u32>, word: Option<u32>) -> Result<(), AllocError>
 pub fn numbers(heap: Global, text: &[u8]) -> Result<Result<Vec<u32>, BadByte>, AllocError>
     ensures found { λ r. ⌜ made r (λ x. found-of x ≡ numbers-in (now (text .entry))) ⌝ }
     ensures back { λ _. ⌜ Reads-back ⌝ }
+    ensures plain { λ _. ⌜ Reads-plain ⌝ }
 {
     let mut found = Vec::new(heap);
     let mut word = None;

@@ -1,4 +1,4 @@
--- What a release comes to in a run that can be. Assumes nothing.
+-- What a release comes to in a well-formed run. Assumes nothing.
 use mathlib.Core.Path.{_≡_, refl, sym, ap, _∙_, subst}
 use mathlib.Core.Bool.{true, false}
 use mathlib.Core.Logic.{_⊎_, inl, inr}

@@ -1,4 +1,4 @@
--- What a touch comes to in a run that can be. Assumes nothing.
+-- What a touch comes to in a well-formed run. Assumes nothing.
 use mathlib.Core.Path.{_≡_, refl, sym, ap, _∙_, subst}
 use mathlib.Core.List.{List, [], _∷_}
 use mathlib.Core.Bool.{Bool, true, false, not, cond, _&&_}

@@ -18,7 +18,7 @@ use Rattle.run.specs.Answers.{Told, hit, fault, replaced, released, refused, t
 use Rattle.run.specs.Run.{Run, opened, event-answer, event-after, run-after, answers}
 
 module _ (m : Model) where
-  -- a run that can be: its policy is sound, holds no more pages than there are frames, and was told of each fault that was counted
+  -- a well-formed run: its policy is sound, holds no more pages than there are frames, and was told of as many faults as were counted
   pub record Within (r : Run (m .State)) : Type 0 where
     pub sound : Sound m (r .policy)
     pub some : 1 ≤ r .frames

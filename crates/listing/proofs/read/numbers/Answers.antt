@@ -5,13 +5,13 @@ use Prim.Native.Nat.{ℕ, _+_}
 use Rattle.std.specs.Of.Vec.{vec-items}
 use Rattle.std.specs.declared.option.Option.{Option}
 use Rattle.std.proofs.shelf.Results.{made-from-err}
-use Rattle.listing.proofs.ReadBack.{reads-back}
+use Rattle.listing.proofs.ReadBack.{reads-back, reads-plain}
 use Rattle.listing.proofs.Reading.{rest-gives, grown, parted, bad, ended}
 use Rattle.listing.proofs.read.numbers.Needs as need
 use Rattle.listing.proofs.read.numbers.Needs.{in-Grown, in-Parted·in-Continue-part}
 
 pub returns-in-Bad : need.returns-in-Bad
-returns-in-Bad c = record { back = reads-back; found = sym (sym (c .loop-at .inv) ∙ bad (vec-items (c .loop-at .found)) (c .loop-at .word) (c .args .text .now) (c .loop-at .at) (c .loop-at-test .taken) (sym (c .in-Bad .ensures tt))) }
+returns-in-Bad c = record { back = reads-back; plain = reads-plain; found = sym (sym (c .loop-at .inv) ∙ bad (vec-items (c .loop-at .found)) (c .loop-at .word) (c .args .text .now) (c .loop-at .at) (c .loop-at-test .taken) (sym (c .in-Bad .ensures tt))) }
 
 same : {xs ys : List ℕ} {v w : Option ℕ} → xs ≡ ys → v ≡ w → (bs : List ℕ) (k : ℕ) → rest-gives xs v bs (k + 1) ≡ rest-gives ys w bs (k + 1)
 same a b bs k = rw (a, b) refl
@@ -27,10 +27,10 @@ loop-at-again c =
     ]
 
 pub returns-in-Break-part : need.returns-in-Break-part
-returns-in-Break-part c = record { back = reads-back; found = search (needs, made-from-err) }
+returns-in-Break-part c = record { back = reads-back; plain = reads-plain; found = search (needs, made-from-err) }
 
 pub returns-in-Break-part-2 : need.returns-in-Break-part-2
-returns-in-Break-part-2 c = record { back = reads-back; found = search (needs, made-from-err) }
+returns-in-Break-part-2 c = record { back = reads-back; plain = reads-plain; found = search (needs, made-from-err) }
 
 pub returns : need.returns
-returns c = record { back = reads-back; found = sym (sym (c .loop-at .inv) ∙ ended (vec-items (c .loop-at .found)) (c .loop-at .word) (c .args .text .now) (c .loop-at .at) _ (c .loop-at-test .left) (c .in-Continue-part-2 .ensures tt)) }
+returns c = record { back = reads-back; plain = reads-plain; found = sym (sym (c .loop-at .inv) ∙ ended (vec-items (c .loop-at .found)) (c .loop-at .word) (c .args .text .now) (c .loop-at .at) _ (c .loop-at-test .left) (c .in-Continue-part-2 .ensures tt)) }
