@@ -1,8 +1,8 @@
 -- In a line the pages stand in the order of their latest loads, or of their latest uses. Assumes nothing.
 use mathlib.Core.Path.{_≡_, refl, sym, ap, _∙_, subst}
 use mathlib.Core.List.{List, [], _∷_, _++_}
-use mathlib.Core.Bool.{Bool, true, false, cond, not, _&&_, _||_}
-use mathlib.Core.Logic.{_⊎_, inl, inr}
+use mathlib.Core.Bool.{Bool, true, false, cond, _&&_}
+use mathlib.Core.Logic.{inl, inr}
 use Prim.Native.Nat.{ℕ, _+_, _<_, _≤_}
 use native.Mathlib.Omega.{arith}
 use lib.ListN.{length}
@@ -15,12 +15,9 @@ use Rattle.pages.specs.Lists.{has, sound, without, first, rest}
 use Rattle.pages.proofs.ListLaws.{has-push, has-without, sound-push, sound-without}
 use Rattle.policy.specs.declared.fault.PolicyFault.{PolicyFault}
 use Rattle.policy.specs.Model.{Model, Call, clear, fault, load, hit, drop, give, refusal, accepted, after, unless}
-use Rattle.policy.specs.Laws.{Lawful, Sound}
 use Rattle.policy.specs.Histories.{passed, reached, latest, Gives-earliest}
 use Rattle.policy.proofs.Checks.{load-facts, held-facts}
-use Rattle.policy.proofs.Calls.{accepted-sound, after-sound}
-use Rattle.ordered.specs.Orders.{Lawful-order}
-use Rattle.ordered.specs.Ordered.{ordered, kept}
+use Rattle.ordered.specs.Ordered.{ordered}
 use Rattle.line.specs.Line.{line}
 
 -- each page of the list has a smaller number than those behind it

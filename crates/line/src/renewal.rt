@@ -1,6 +1,6 @@
 // What puts a page at the end of a line.
 ghost use mathlib.Core.Path.{_≡_};
-ghost use mathlib.Core.Bool.{Bool, true, false};
+ghost use mathlib.Core.Bool.{Bool, false};
 
 pub trait Renewal {
     // Whether a hit does; a load always does.

@@ -1,5 +1,4 @@
 // Printed lines, each with its line end.
-ghost use mathlib.Core.List.{_++_};
 ghost use Rattle.std.specs.declared.option.Option.the-variants.{Some};
 ghost use Rattle.listing.specs.Lines.{answer-line, end-line};
 use run::answer::Answer;

@@ -1,5 +1,4 @@
 // A policy over an order of pages: it makes the checks, counts the faults, and leaves the rest to the order.
-ghost use mathlib.Core.Path.{_≡_};
 ghost use Prim.Native.Nat.{_≤_};
 
 pub mod calls;

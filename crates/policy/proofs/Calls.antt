@@ -1,20 +1,18 @@
 -- What every lawful policy keeps over its calls. Assumes nothing.
-use mathlib.Core.Path.{_≡_, refl, sym, ap, _∙_}
+use mathlib.Core.Path.{_≡_, refl, ap, _∙_}
 use mathlib.Core.List.{List, [], _∷_}
-use mathlib.Core.Bool.{true, false, _&&_}
-use mathlib.Core.Logic.{inl, inr}
-use Prim.Native.Nat.{ℕ, _+_, _<_, _≤_}
+use mathlib.Core.Bool.{true}
+use Prim.Native.Nat.{ℕ, _<_, _≤_}
 use native.Mathlib.Omega.{arith}
 use lib.ListN.{length}
 use Rattle.std.specs.declared.option.Option.{Option}
 use Rattle.std.specs.declared.option.Option.the-variants.{Some, None}
-use Rattle.std.proofs.shelf.Tests.{cases-bool}
 use Rattle.std.proofs.shelf.Ways.{tells}
 use Rattle.policy.specs.declared.fault.PolicyFault.{PolicyFault}
-use Rattle.pages.specs.Lists.{has, sound, Takes}
+use Rattle.pages.specs.Lists.{has, sound}
 use Rattle.pages.proofs.ListLaws.{has-small}
-use Rattle.policy.specs.Model.{Model, Call, clear, fault, load, hit, drop, give, refusal, accepted, after, after-all, unless, capped, held}
-use Rattle.policy.specs.Laws.{Sound, Allowed, Effect, Gives, Lawful, replies, done, Policy-laws}
+use Rattle.policy.specs.Model.{Model, Call, clear, fault, load, hit, drop, give, refusal, accepted, after, after-all, unless, held}
+use Rattle.policy.specs.Laws.{Sound, Allowed, Gives, Lawful, replies, done, Policy-laws}
 use Rattle.policy.proofs.Checks.{fault-facts, load-facts, checked}
 
 pub held-has : (p : ℕ) (xs : List ℕ) → sound xs ≡ true → held p xs ≡ has p xs

@@ -1,12 +1,11 @@
 -- What a touch comes to in a well-formed run. Assumes nothing.
 use mathlib.Core.Path.{_≡_, refl, sym, ap, _∙_, subst}
-use mathlib.Core.List.{List, [], _∷_}
-use mathlib.Core.Bool.{Bool, true, false, not, cond, _&&_}
-use mathlib.Core.Logic.{_⊎_, inl, inr}
+use mathlib.Core.Bool.{true, false}
+use mathlib.Core.Logic.{inl, inr}
 use Prim.Native.Nat.{ℕ, _+_, _<_, _≤_}
 use native.Mathlib.Omega.{arith}
 use lib.ListN.{length}
-use lib.Dec.{leb, ltb, eqb}
+use lib.Dec.{ltb}
 use Rattle.std.specs.declared.option.Option.{Option}
 use Rattle.std.specs.declared.option.Option.the-variants.{Some, None}
 use Rattle.std.specs.declared.result.Result.{Result}
@@ -15,7 +14,7 @@ use Rattle.std.proofs.shelf.Tests.{cases-bool, cases-lt, lt-leb, le-leb, lt-ltb
 use Rattle.std.proofs.shelf.Ways.{tells}
 use Rattle.pages.specs.Lists.{has, Adds, Keeps, Takes}
 use Rattle.policy.specs.declared.fault.PolicyFault.{PolicyFault}
-use Rattle.policy.specs.Model.{Model, Call, clear, fault, load, hit, drop, give, refusal, accepted, after, unless}
+use Rattle.policy.specs.Model.{Model, clear, fault, load, hit, give, refusal, after, unless}
 use Rattle.policy.specs.Laws.{Sound, Lawful, Gives}
 use Rattle.policy.proofs.Checks.{fault-accepts, load-accepts, held-accepts}
 use Rattle.policy.proofs.Calls.{accepted-sound}
@@ -25,12 +24,11 @@ use Rattle.settings.specs.declared.fault.RunFault.{RunFault}
 use Rattle.settings.specs.declared.fault.RunFault.the-variants as refusals
 use Rattle.run.specs.declared.answer.Touched.{Touched}
 use Rattle.run.specs.declared.answer.Touched.the-variants.{Hit, Fault, Replaced}
-use Rattle.run.specs.declared.answer.Answer.{Answer}
 use Rattle.run.specs.declared.answer.Answer.the-variants as answer
 use Rattle.run.specs.declared.answer.Figures.{Figures}
 use Rattle.run.specs.Answers as say
-use Rattle.run.specs.Answers.{Told, told, touched, figures}
-use Rattle.run.specs.Run.{Run, opened, up, fault-with, count-hit, count-fault, sent-out, with-room, faulted, out, ready, hit-answer, hit-after, fault-answer, fault-after, touch-answer, touch-after}
+use Rattle.run.specs.Answers.{told, touched, figures}
+use Rattle.run.specs.Run.{Run, opened, up, fault-with, count-hit, count-fault, sent-out, with-room, faulted, out, ready, touch-answer, touch-after}
 use Rattle.run.specs.Laws.{Within, memory, Swaps, Touch-told}
 
 pub taken : {S : Type 0} (o : Option PolicyFault) (s t : S) → o ≡ None → unless o s t ≡ t

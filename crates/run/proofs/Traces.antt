@@ -4,13 +4,12 @@ use mathlib.Core.List.{List, [], _∷_, _++_, append-assoc, append-nil}
 use mathlib.Core.Bool.{Bool, true, false, cond}
 use Prim.Native.Nat.{ℕ, _+_, _<_, _≤_}
 use native.Mathlib.Omega.{arith}
-use native.Mathlib.Nat.{add-assoc, add-zero, zero-add}
 use lib.Dec.{leb}
 use lib.ListN.{length, drop, getD}
 use Rattle.std.specs.declared.option.Option.{Option}
 use Rattle.std.specs.declared.option.Option.the-variants.{Some, None}
 use Rattle.std.specs.declared.result.Result.{Result}
-use Rattle.std.specs.declared.result.Result.the-variants.{Ok, Err}
+use Rattle.std.specs.declared.result.Result.the-variants.{Ok}
 use Rattle.std.proofs.shelf.Lists.{drop-more, drop-all}
 use Rattle.pages.specs.Lists.{has}
 use Rattle.policy.specs.declared.fault.PolicyFault.{PolicyFault}
@@ -24,11 +23,11 @@ use Rattle.run.specs.declared.answer.Touched.{Touched}
 use Rattle.run.specs.declared.answer.Touched.the-variants.{Hit}
 use Rattle.run.specs.declared.answer.Answer.{Answer}
 use Rattle.run.specs.declared.answer.Figures.{Figures}
-use Rattle.run.specs.Answers.{Told, told, touched, freed, figures, is-touch, is-fault, is-out, one-if, how-many, counted}
+use Rattle.run.specs.Answers.{told, touched, freed, figures, is-touch, is-fault, is-out, one-if, how-many, counted}
 use Rattle.run.specs.Run.{Run, opened, up, fault-with, count-hit, count-fault, out, ready, hit-answer, hit-after, fault-answer, fault-after, touch-answer, touch-after, release-answer, event-answer, event-after, run-after, answers}
 use Rattle.run.specs.Laws.{Within, Event-told, Run-laws}
-use Rattle.run.proofs.Touches.{opened-within, touch-within, touch-told}
-use Rattle.run.proofs.Releases.{release-within, release-told}
+use Rattle.run.proofs.Touches.{opened-within, touch-told}
+use Rattle.run.proofs.Releases.{release-told}
 
 -- the figures of one answer more
 abbrev pub plus : Figures → Answer → Figures

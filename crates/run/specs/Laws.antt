@@ -2,7 +2,7 @@
 use mathlib.Core.Path.{_≡_}
 use mathlib.Core.List.{List, [], _∷_}
 use mathlib.Core.Bool.{true, false}
-use Prim.Native.Nat.{ℕ, _+_, _≤_, _<_}
+use Prim.Native.Nat.{ℕ, _≤_, _<_}
 use lib.ListN.{length}
 use Rattle.std.specs.declared.option.Option.the-variants.{Some}
 use Rattle.pages.specs.Lists.{has, Adds, Keeps, Takes}
@@ -14,7 +14,7 @@ use Rattle.settings.specs.declared.fault.Layer.the-variants as layer
 use Rattle.run.specs.declared.answer.Event.{Event}
 use Rattle.run.specs.declared.answer.Event.the-variants.{Touch, Release}
 use Rattle.run.specs.declared.answer.Answer.{Answer}
-use Rattle.run.specs.Answers.{Told, hit, fault, replaced, released, refused, told, counted}
+use Rattle.run.specs.Answers.{hit, fault, replaced, released, refused, told, counted}
 use Rattle.run.specs.Run.{Run, opened, event-answer, event-after, run-after, answers}
 
 module _ (m : Model) where

@@ -1,17 +1,16 @@
 -- What numbers in their ranges keep. Assumes nothing.
-use mathlib.Core.Path.{_≡_, refl, sym, ap, _∙_, subst}
-use mathlib.Core.Bool.{Bool, true, false, not, cond}
+use mathlib.Core.Path.{_≡_, refl, sym, subst}
+use mathlib.Core.Bool.{true}
 use mathlib.Core.Logic.{inl, inr}
-use Prim.Native.Nat.{ℕ, _≤_, _<_}
+use Prim.Native.Nat.{ℕ, _≤_}
 use native.Mathlib.Omega.{arith}
-use lib.Dec.{ltb}
 use Rattle.std.proofs.shelf.Tests.{cases-bool, le-ltb, lt-ltb}
 use Rattle.std.proofs.shelf.Ways.{tells}
 use Rattle.std.specs.declared.result.Result.{Result}
 use Rattle.settings.specs.declared.fault.Layer.the-variants as layer
 use Rattle.settings.specs.declared.fault.RunFault.{RunFault}
 use Rattle.settings.specs.declared.numbers.Numbers.{Numbers}
-use Rattle.settings.specs.Checks.{within, in-ranges, checked, Ranged, Refused, Settings-told}
+use Rattle.settings.specs.Checks.{within, in-ranges, checked, Ranged, Settings-told}
 
 pub ranged : (n : Numbers) → in-ranges n ≡ true → Ranged n
 ranged n e = record {

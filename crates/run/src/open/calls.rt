@@ -10,7 +10,6 @@ use crate::answer::Event;
 use crate::answer::Figures;
 use crate::answer::Touched;
 use crate::closed::ClosedRun;
-use policy::fault::PolicyFault;
 use policy::limits::PAGES;
 use policy::policy::Policy;
 use settings::fault::RunFault;

@@ -1,7 +1,6 @@
 // The one call that makes settings.
 ghost use mathlib.Core.Path.{_≡_};
 ghost use mathlib.Core.Bool.{_&&_};
-ghost use lib.Dec.{leb};
 ghost use Rattle.settings.specs.Checks.{seen, checked, in-ranges, within, Settings-told};
 use super::Settings;
 use crate::fault::RunFault;

@@ -1,6 +1,5 @@
 use borrow.Author.Needs.{needs}
 use mathlib.Core.Path.{sym, subst}
-use Rattle.run.specs.Run.{Run}
 use Rattle.run.specs.Answers.{figures}
 use Rattle.run.specs.Laws.{Within}
 use Rattle.run.proofs.Touches.{opened-within}
