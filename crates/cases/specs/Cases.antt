@@ -9,7 +9,7 @@ use Rattle.run.specs.Answers as answer
 use Rattle.run.specs.Answers.{Told, told}
 use Rattle.run.specs.Run.{opened, answers}
 use Rattle.fifo.specs.Fifo as fifo
-use Rattle.lru.specs.Lru as lru
+use Rattle.lru_policy.specs.Lru as lru
 use Rattle.clock.specs.Clock as clock
 use Rattle.front_queue.specs.Front.{fronted}
 

@@ -2,8 +2,7 @@
 ghost use Rattle.std.specs.Prelude.{◌≡◌, IfOk};
 ghost use Rattle.policy.specs.Histories.{loads, GivesEarliest};
 ghost use Rattle.policy.specs.Laws.{Sound};
-ghost use Rattle.line.specs.Line.{lined};
-ghost use Rattle.fifo.specs.Fifo.{fifo};
+ghost use Rattle.fifo.specs.Fifo.{fifo, fifo_of};
 
 use line::line::Line;
 use line::renewal::ByLoad;
@@ -14,9 +13,10 @@ pub type Fifo = Ordered<Line<ByLoad>>;
 
 // A cleared FIFO. This takes its memory, and no later call takes any.
 pub fn make(heap: Global) -> Result<Fifo, AllocError>
-    ensures opening { IfOk result (λ f. lined f ≡ fifo.opening tt) }
-    ensures sound { IfOk result (λ f. Sound fifo (lined f)) }
+    ensures opening { IfOk result (λ f. fifo_of f ≡ fifo.opening tt) }
+    ensures sound { IfOk result (λ f. Sound fifo (fifo_of f)) }
     ensures earliest { GivesEarliest fifo loads }
 {
-    line::make(heap, ByLoad)
+    let line = Line::new(heap, ByLoad)?;
+    Ok(Ordered::new(line))
 }

@@ -11,7 +11,7 @@ use Rattle.policy.specs.Model.{Model, Call, clear, fault, load, hit, drop, give,
 use Rattle.policy.specs.Laws.{Sound, Gives, Lawful}
 use Rattle.policy.specs.Histories.{passed}
 use Rattle.policy.proofs.Accepted.{load_facts}
-use Rattle.policy.proofs.Ages.{not_numbered, latest_low}
+use Rattle.policy.proofs.Ages.{not_numbered, latest_by_low}
 use Rattle.policy.proofs.Calls.{accepted_sound, after_sound, after_settled, after_effect}
 use Rattle.front_queue.specs.Front.{Queued, queued, fronted}
 use Rattle.front_queue.specs.Laws as ways
@@ -172,7 +172,7 @@ module _ (m : Model) (l : Lawful m) where
 
     newest : (cs : List Call) → Newest (join_number m n b cs) (after_calls m n b cs).front (m.pages (after_calls m n b cs).below)
     newest [] = none_newest _ _
-    newest (c ∷ cs) = steps (after_calls m n b cs) (reached_sound cs) (length cs) (join_number m n b cs) (latest_low over (n, m.setting b) (joining m) cs) (newest cs) c
+    newest (c ∷ cs) = steps (after_calls m n b cs) (reached_sound cs) (length cs) (join_number m n b cs) (latest_by_low over (n, m.setting b) (joining m) cs) (newest cs) c
 
     at_most : (cs : List Call) → length (after_calls m n b cs).front ≤ n
     at_most cs = let e = ap (λ (x : ℕ × m.Setting). x.0) (reached_settled cs) in omega (arith, (reached_sound cs).fine.1, e)

@@ -3,7 +3,7 @@ use Rattle.std.specs.Prelude.{◌≡◌, ℕ, ◌<◌, ◌≤◌, Bool, true, fa
 use Rattle.pages.specs.Lists.{has, without, first, rest, Rising}
 use Rattle.policy.specs.Model.{Model, Call, clear, fault, load, hit, drop, give, refusal, after, after_all}
 use Rattle.policy.specs.Laws.{Sound, replies}
-use Rattle.policy.specs.Histories.{reached, latest}
+use Rattle.policy.specs.Histories.{reached, latest_by}
 use Rattle.front_queue.specs.Front.{Queued, queued, fronted}
 
 module _ (m : Model) where
@@ -53,7 +53,7 @@ module _ (m : Model) where
   after_calls n b cs = reached (fronted m) (n, m.setting b) cs
 
   abbrev pub join_number : ℕ → m.State → List Call → ℕ → ℕ
-  join_number n b cs p = latest (fronted m) (n, m.setting b) joining p cs
+  join_number n b cs p = latest_by (fronted m) (n, m.setting b) joining p cs
 
   pub record FrontLaws : Type 0 where
     -- every accepted call goes one of the ways, and whichever it goes, it leaves what the way says

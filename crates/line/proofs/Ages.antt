@@ -65,11 +65,11 @@ module _ (b : Bool) where
         by (Some e) r = (i.0, rising_same f (more n f c false) s.order (λ q h. not_numbered (such q c) (n + 1) (f q)) i.1)
 
   abbrev age : List Call → ℕ → ℕ
-  age cs q = latest m tt (λ s. such) q cs
+  age cs q = latest m tt such q cs
 
   in_order : (cs : List Call) → InOrder (age cs) (reached m tt cs)
   in_order [] = (refl, tt)
-  in_order (c ∷ cs) = step (reached m tt cs) (length cs) (age cs) (latest_low m tt (λ s. such) cs) (in_order cs) c
+  in_order (c ∷ cs) = step (reached m tt cs) (length cs) (age cs) (latest_low m tt such cs) (in_order cs) c
 
   pub gives_earliest : GivesEarliest m such
   gives_earliest x cs p e =

@@ -15,9 +15,9 @@ pub mod renewal;
 
 // A cleared policy over a line with the given renewal. This takes its memory, and no later call takes any.
 pub fn make<R: Renewal + Drop>(heap: Global, renewal: R) -> Result<Ordered<Line<R>>, AllocError>
-    ensures opening { IfOk result (λ f. lined f ≡ (ordered (line renews)).opening tt) }
-    ensures sound { IfOk result (λ f. Sound (ordered (line renews)) (lined f)) }
-    ensures earliest { GivesEarliest (ordered (line renews)) (loads_or_hits renews) }
+    ensures opening { IfOk result (λ f. lined f ≡ (ordered (line R.renews)).opening tt) }
+    ensures sound { IfOk result (λ f. Sound (ordered (line R.renews)) (lined f)) }
+    ensures earliest { GivesEarliest (ordered (line R.renews)) (loads_or_hits R.renews) }
 {
     let line = Line::new(heap, renewal)?;
     Ok(Ordered::new(line))

@@ -6,7 +6,7 @@ use Rattle.settings.specs.Refusals.{run_number}
 use Rattle.settings.specs.Checks.{checked}
 use Rattle.policy.specs.Model.{Model}
 use Rattle.fifo.specs.Fifo.{fifo}
-use Rattle.lru.specs.Lru.{lru}
+use Rattle.lru_policy.specs.Lru.{lru}
 use Rattle.clock.specs.Clock.{clock}
 use Rattle.front_queue.specs.Front.{fronted}
 use Rattle.run.specs.declared.answer.Event.TheVariants.{Touch}

@@ -78,7 +78,7 @@ fn play_pages<P: Policy + Drop>(
     policy: P,
     pages: &[u32],
 ) -> Result<String, AllocError>
-    ensures { IfOk result (λ s. string_bytes s ≡ played model settings.frames (standing policy) pages.now) }
+    ensures { IfOk result (λ s. string_bytes s ≡ played P.model settings.frames (P.standing policy) pages.now) }
 {
     let events = touches(heap, pages)?;
     let Played { answers, run } = play(heap, settings, policy, events.as_slice())?;
@@ -95,7 +95,7 @@ fn play_behind<P: Policy + Drop>(
     below: P,
     pages: &[u32],
 ) -> Result<String, AllocError>
-    ensures { IfOk result (λ s. string_bytes s ≡ played_behind model (model.setting (standing below)) settings.front settings.frames pages.now) }
+    ensures { IfOk result (λ s. string_bytes s ≡ played_behind P.model (P.model.setting (P.standing below)) settings.front settings.frames pages.now) }
 {
     let policy = FrontQueue::new(heap, settings, below)?;
     play_pages(heap, settings, policy, pages)

@@ -1,4 +1,4 @@
--- The laws of the interface, which every policy shows, and what follows of them for every list of calls. Assumes nothing.
+-- The lines of the interface, which every policy shows, and what follows of them for every list of calls. Assumes nothing.
 use Rattle.std.specs.Prelude.{◌≡◌, ℕ, ◌+◌, ◌<◌, ◌≤◌, true, false, List, [], ◌∷◌, length, Some, None, Option}
 use Rattle.policy.specs.declared.fault.PolicyFault.{PolicyFault}
 use Rattle.pages.specs.Lists.{has, sound, Adds, Keeps, Takes}

@@ -66,6 +66,9 @@ unless (Some f) before after = before
 
 module _ (m : Model) where
   -- the checks of each call, in their order
+  abbrev pub absent_refusal : m.State → ℕ → Option PolicyFault
+  absent_refusal s p = refuse_if (nat_le 4096 p) NotAPage (refuse_if (has p (m.pages s)) AlreadyHeld None)
+
   abbrev pub fault_refusal : m.State → ℕ → Option PolicyFault
   fault_refusal s p = refuse_if (nat_le 4096 p) NotAPage (refuse_if (has p (m.pages s)) AlreadyHeld (refuse_if (nat_le 16000000 (m.count s)) TooManyFaults None))
 
@@ -73,7 +76,7 @@ module _ (m : Model) where
   load_refusal s p = refuse_if (nat_le 4096 p) NotAPage (refuse_if (has p (m.pages s)) AlreadyHeld (refuse_if (nat_le 1024 (length (m.pages s))) Full None))
 
   abbrev pub held_refusal : m.State → ℕ → Option PolicyFault
-  held_refusal s p = held_check p (has p (m.pages s))
+  held_refusal s p = refuse_if (nat_le 4096 p) NotAPage (refuse_if (not (has p (m.pages s))) NotHeld None)
 
   -- why a call is refused: the first of its checks that fails
   abbrev pub refusal : m.State → Call → Option PolicyFault

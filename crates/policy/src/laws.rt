@@ -5,5 +5,5 @@ use crate::policy::Policy;
 
 // A sound standing stays sound, a cleared policy is as a new one, and a refused call changes nothing.
 pub fn policy_laws<P: Policy>()
-    ensures { PolicyLaws model }
+    ensures { PolicyLaws P.model }
 {}

@@ -24,9 +24,9 @@ pub fn play<P: Policy + Drop>(
     policy: P,
     events: &[Event],
 ) -> Result<Played<P>, AllocError>
-    ensures answers { IfOk result (λ d. d.answers.items ≡ answers model (opened model settings.frames (standing policy)) events.now) }
-    ensures after { IfOk result (λ d. run_of standing d.run ≡ run_after model (opened model settings.frames (standing policy)) events.now) }
-    ensures laws { RunLaws model }
+    ensures answers { IfOk result (λ d. d.answers.items ≡ answers P.model (opened P.model settings.frames (P.standing policy)) events.now) }
+    ensures after { IfOk result (λ d. run_of P.standing d.run ≡ run_after P.model (opened P.model settings.frames (P.standing policy)) events.now) }
+    ensures laws { RunLaws P.model }
     ensures figures { IfOk result (λ d. d.run.figures ≡ counted d.answers.items) }
 {
     let mut answers = Vec::with_capacity(heap, events.len())?;

@@ -19,9 +19,9 @@ use std::alloc::{AllocError, Global};
 impl<P: Policy + Drop> FrontQueue<P> {
     // A queue of as many pages as the settings say in front of the policy, which is cleared. This takes its memory, and no later call takes any.
     pub fn new(heap: Global, settings: Settings, mut below: P) -> Result<FrontQueue<P>, AllocError>
-        ensures opening { IfOk result (λ f. queued_of standing f ≡ (fronted model).opening (settings.front, model.setting (standing below))) }
-        ensures sound { IfOk result (λ f. Sound (fronted model) (queued_of standing f)) }
-        ensures laws { FrontLaws model }
+        ensures opening { IfOk result (λ f. queued_of P.standing f ≡ (fronted P.model).opening (settings.front, P.model.setting (P.standing below))) }
+        ensures sound { IfOk result (λ f. Sound (fronted P.model) (queued_of P.standing f)) }
+        ensures laws { FrontLaws P.model }
     {
         let queue = PageQueue::new(heap)?;
         below.clear();
@@ -38,7 +38,7 @@ impl<P: Policy> FrontQueue<P> {
     fn join(&mut self, page: u32)
         requires page { page < 4096 }
         requires absent { has page (pages_of self.old.queue) ≡ false }
-        ensures { queued_of standing self.new ≡ join model (pages_of self.old.queue) self.old.size (standing self.old.below) page }
+        ensures { queued_of P.standing self.new ≡ join P.model (pages_of self.old.queue) self.old.size (P.standing self.old.below) page }
     {
         if self.queue.len() < self.size {
             let _ = self.queue.push_back(page);

@@ -2,7 +2,7 @@
 ghost use Rattle.std.specs.Prelude.{◌≡◌};
 ghost use Rattle.policy.specs.Laws.{Sound};
 ghost use Rattle.ordered.specs.Ordered.{ordered, state_of};
-ghost use Rattle.std.proofs.Common.{rules, arith};
+ghost use Rattle.std.proofs.Common.{rules};
 
 use super::Ordered;
 use crate::order::PageOrder;
@@ -14,8 +14,8 @@ use policy::policy::Policy;
 impl<O: PageOrder> Ordered<O> {
     // A policy over the order, which is cleared.
     pub fn new(mut order: O) -> Ordered<O>
-        ensures opening { state_of placed result ≡ (ordered orders).opening tt }
-        ensures sound { Sound (ordered orders) (state_of placed result) }
+        ensures opening { state_of O.placed result ≡ (ordered O.orders).opening tt }
+        ensures sound { Sound (ordered O.orders) (state_of O.placed result) }
     {
         order.clear();
         Ordered { order, faults: 0 }
@@ -23,11 +23,11 @@ impl<O: PageOrder> Ordered<O> {
 }
 
 impl<O: PageOrder> Policy for Ordered<O> {
-    ghost model = { ordered O.PageOrder.orders };
+    ghost model = { ordered O.orders };
 
-    ghost standing = { state_of O.PageOrder.placed };
+    ghost standing = { state_of O.placed };
 
-    ghost laws = { first_of (Prim.search rules, Prim.grind (arith, Self.row.coded.inj)) };
+    ghost laws = { Prim.search rules };
 
     fn clear(&mut self) {
         self.order.clear();

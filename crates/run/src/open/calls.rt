@@ -18,8 +18,8 @@ const MOST_TOUCHES: u32 = 16_000_000;
 impl<P: Policy> OpenRun<P> {
     // Clears the policy and begins with an empty memory.
     pub fn open(settings: Settings, mut policy: P) -> OpenRun<P>
-        ensures opened { run_of standing result ≡ opened model settings.frames (standing policy) }
-        ensures within { Within model (run_of standing result) }
+        ensures opened { run_of P.standing result ≡ opened P.model settings.frames (P.standing policy) }
+        ensures within { Within P.model (run_of P.standing result) }
     {
         policy.clear();
         OpenRun {
@@ -35,9 +35,9 @@ impl<P: Policy> OpenRun<P> {
 
     // Uses a page: a hit where it is in memory, else a fault, for which a page goes out where every frame is taken.
     pub fn touch(&mut self, page: u32) -> Result<Touched, RunFault>
-        ensures answer { result ≡ touch_answer model (run_of standing self.old) page }
-        ensures after { run_of standing self.new ≡ touch_after model (run_of standing self.old) page }
-        ensures told { Within model (run_of standing self.old) → TouchTold model (run_of standing self.old) page (touched result) (run_of standing self.new) }
+        ensures answer { result ≡ touch_answer P.model (run_of P.standing self.old) page }
+        ensures after { run_of P.standing self.new ≡ touch_after P.model (run_of P.standing self.old) page }
+        ensures told { Within P.model (run_of P.standing self.old) → TouchTold P.model (run_of P.standing self.old) page (touched result) (run_of P.standing self.new) }
     {
         if page >= PAGES {
             return Err(RunFault::NotAPage);
@@ -53,9 +53,9 @@ impl<P: Policy> OpenRun<P> {
 
     // Lets a page go.
     pub fn release(&mut self, page: u32) -> Result<(), RunFault>
-        ensures answer { result ≡ release_answer model (run_of standing self.old) page }
-        ensures after { run_of standing self.new ≡ release_after model (run_of standing self.old) page }
-        ensures told { Within model (run_of standing self.old) → ReleaseTold model (run_of standing self.old) page (freed result) (run_of standing self.new) }
+        ensures answer { result ≡ release_answer P.model (run_of P.standing self.old) page }
+        ensures after { run_of P.standing self.new ≡ release_after P.model (run_of P.standing self.old) page }
+        ensures told { Within P.model (run_of P.standing self.old) → ReleaseTold P.model (run_of P.standing self.old) page (freed result) (run_of P.standing self.new) }
     {
         self.policy.drop(page)?;
         Ok(())
@@ -63,9 +63,9 @@ impl<P: Policy> OpenRun<P> {
 
     // A touch or a release.
     pub fn perform(&mut self, event: Event) -> Answer
-        ensures answer { result ≡ event_answer model (run_of standing self.old) event }
-        ensures after { run_of standing self.new ≡ event_after model (run_of standing self.old) event }
-        ensures told { Within model (run_of standing self.old) → EventTold model (run_of standing self.old) event result (run_of standing self.new) }
+        ensures answer { result ≡ event_answer P.model (run_of P.standing self.old) event }
+        ensures after { run_of P.standing self.new ≡ event_after P.model (run_of P.standing self.old) event }
+        ensures told { Within P.model (run_of P.standing self.old) → EventTold P.model (run_of P.standing self.old) event result (run_of P.standing self.new) }
     {
         match event {
             Event::Touch(page) => match self.touch(page) {
@@ -93,8 +93,8 @@ impl<P: Policy> OpenRun<P> {
     // A touch of a page that is in memory.
     fn hit(&mut self, page: u32) -> Result<Touched, RunFault>
         requires { self.old.figures.touches < 16000000 }
-        ensures answer { result ≡ hit_answer model (run_of standing self.old) page }
-        ensures after { run_of standing self.new ≡ hit_after model (run_of standing self.old) page }
+        ensures answer { result ≡ hit_answer P.model (run_of P.standing self.old) page }
+        ensures after { run_of P.standing self.new ≡ hit_after P.model (run_of P.standing self.old) page }
     {
         self.policy.hit(page)?;
         self.figures.touches += 1;
@@ -104,8 +104,8 @@ impl<P: Policy> OpenRun<P> {
     // A touch of a page that is not in memory.
     fn fault(&mut self, page: u32) -> Result<Touched, RunFault>
         requires { self.old.figures.touches < 16000000 }
-        ensures answer { result ≡ fault_answer model (run_of standing self.old) page }
-        ensures after { run_of standing self.new ≡ fault_after model (run_of standing self.old) page }
+        ensures answer { result ≡ fault_answer P.model (run_of P.standing self.old) page }
+        ensures after { run_of P.standing self.new ≡ fault_after P.model (run_of P.standing self.old) page }
     {
         self.policy.fault(page)?;
         let out = self.make_room();
@@ -121,9 +121,9 @@ impl<P: Policy> OpenRun<P> {
 
     // Has the policy give a page where every frame is taken.
     fn make_room(&mut self) -> Option<u16>
-        ensures out { result ≡ sent_out model self.old.frames (standing self.old.policy) }
+        ensures out { result ≡ sent_out P.model self.old.frames (P.standing self.old.policy) }
         ensures frames { self.new.frames ≡ self.old.frames }
-        ensures policy { standing self.new.policy ≡ with_room model self.old.frames (standing self.old.policy) }
+        ensures policy { P.standing self.new.policy ≡ with_room P.model self.old.frames (P.standing self.old.policy) }
         ensures figures { self.new.figures ≡ self.old.figures }
     {
         if self.policy.len() < self.frames {

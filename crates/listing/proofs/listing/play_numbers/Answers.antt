@@ -6,4 +6,4 @@ pub returns-in-default : goal.returns-in-default
 returns-in-default c = rw (by_fewer c.args.name c.args.numbers.now (omega (arith, ltb-true, ltb-false))) (search rules)
 
 pub returns : goal.returns
-returns c = rw (by_two c.args.name c.args.numbers.now (omega (arith, ltb-true, ltb-false))) c.play-with.ensures
+returns c = rw (by_two c.args.name c.args.numbers.now (omega (arith, ltb-true, ltb-false))) c.play_with.ensures

@@ -4,5 +4,5 @@ use Rattle.listing.proofs.listing.play_text.Goals as goal
 
 pub returns-in-Err : goal.returns-in-Err
 returns-in-Err c =
-    let e : numbers_in c.args.start c.args.text.now ≡ Err c.in-Err.bad.at = sym c.in-ok-found.ensures.found ∙ ap found_of c.in-Err.is in
+    let e : numbers_in c.args.start c.args.text.now ≡ Err c.in-Err.bad.at = sym c.in_ok-found.ensures.found ∙ ap found_of c.in-Err.is in
     rw e (search rules)

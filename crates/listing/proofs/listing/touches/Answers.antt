@@ -10,7 +10,7 @@ more xs ys ps i h e = rw (e, append_assoc, drop_more ps i 0 h)
 pub loop-page-preserved : goal.loop-page-preserved
 loop-page-preserved c =
     let i = c.loop-page.invariant in
-    (more (vec_items c.loop-page.events) _ c.args.pages.now c.loop-page.page-index c.loop-page-test.true c.push-reserved.ensures.items ∙ i.0, omega arith, omega arith)
+    (more (vec_items c.loop-page.events) _ c.args.pages.now c.loop-page.page-index c.loop-page-test.true c.push_reserved.ensures.items ∙ i.0, omega arith, omega arith)
 
 pub returns : goal.returns
 returns c =

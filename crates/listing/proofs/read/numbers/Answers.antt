@@ -21,11 +21,11 @@ loop-at-preserved c =
       | in_Parted+in_ok_part w ↦ same (ap vec_items w.found-is) w.word-is bs k ∙ parted xs c.loop-at.word bs k _ c.loop-at-test.true (sym w.in_Parted.ensures) w.in_ok_part.ensures ∙ c.loop-at.invariant
     ]
 
-pub returns-in-err-part : goal.returns-in-err-part
-returns-in-err-part c = record { back = reads_back; plain = reads_plain; found = search (rules, IfOk-from_err) }
+pub returns-in_err-part : goal.returns-in_err-part
+returns-in_err-part c = record { back = reads_back; plain = reads_plain; found = search (rules, IfOk-from_err) }
 
-pub returns-in-err-part-2 : goal.returns-in-err-part-2
-returns-in-err-part-2 c = record { back = reads_back; plain = reads_plain; found = search (rules, IfOk-from_err) }
+pub returns-in_err-part-2 : goal.returns-in_err-part-2
+returns-in_err-part-2 c = record { back = reads_back; plain = reads_plain; found = search (rules, IfOk-from_err) }
 
 pub returns : goal.returns
-returns c = record { back = reads_back; plain = reads_plain; found = sym (sym c.loop-at.invariant ∙ ended (vec_items c.loop-at.found) c.loop-at.word c.args.text.now c.loop-at.at _ c.loop-at-test.false c.in-ok-part-2.ensures) }
+returns c = record { back = reads_back; plain = reads_plain; found = sym (sym c.loop-at.invariant ∙ ended (vec_items c.loop-at.found) c.loop-at.word c.args.text.now c.loop-at.at _ c.loop-at-test.false c.in_ok-part-2.ensures) }

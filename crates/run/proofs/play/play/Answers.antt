@@ -11,13 +11,13 @@ loop-event-preserved g c =
     let es = c.args.events.now in
     let n = c.loop-event.event-index in (
       next_after m _ _ es n _ c.loop-event-test.true c.perform-answer.ensures.after ∙ i.0,
-      next_answers m _ _ es n _ c.loop-event-test.true c.perform-answer.ensures.after _ _ _ c.perform-answer.ensures.answer c.push-reserved.ensures.items ∙ i.1,
+      next_answers m _ _ es n _ c.loop-event-test.true c.perform-answer.ensures.after _ _ _ c.perform-answer.ensures.answer c.push_reserved.ensures.items ∙ i.1,
       omega arith,
       omega arith,
     )
 
-pub returns-in-err-answers : goal.returns-in-err-answers
-returns-in-err-answers g c =
+pub returns-in_err-answers : goal.returns-in_err-answers
+returns-in_err-answers g c =
     record { answers = search rules; after = search rules; laws = run_laws g.P.Policy.model g.met.P.Policy.laws; figures = search rules }
 
 pub returns : goal.returns

@@ -12,17 +12,17 @@ index-before-requires c = search (rules, has_small)
 pub index-after-requires : goal.index-after-requires
 index-after-requires c = search (rules, has_small)
 
-pub index-mut-requires : goal.index-mut-requires
-index-mut-requires c = search (rules, prev_within)
+pub index_mut-requires : goal.index_mut-requires
+index_mut-requires c = search (rules, prev_within)
 
-pub index-mut-requires-2 : goal.index-mut-requires-2
-index-mut-requires-2 c = search (rules, next_within)
+pub index_mut-requires-2 : goal.index_mut-requires-2
+index_mut-requires-2 c = search (rules, next_within)
 
-pub index-mut-requires-3 : goal.index-mut-requires-3
-index-mut-requires-3 c = search (rules, has_small)
+pub index_mut-requires-3 : goal.index_mut-requires-3
+index_mut-requires-3 c = search (rules, has_small)
 
-pub invariant-of-self : goal.invariant-of-self
-invariant-of-self c =
+pub invariant_of-self : goal.invariant_of-self
+invariant_of-self c =
     let k = (gone c.args.self.now c.args.page c.index-before.result.now c.index-after.result.now c.if-not-contains.ensures c.index-before.ensures c.index-after.ensures).links in
     search rules
 

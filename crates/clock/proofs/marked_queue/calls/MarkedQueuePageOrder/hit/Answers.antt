@@ -4,8 +4,8 @@ use Rattle.pages.proofs.ListLaws.{has_small}
 use Rattle.clock.proofs.Marks.{hit_there, hit_not}
 use Rattle.clock.proofs.marked_queue.calls.MarkedQueuePageOrder.hit.Goals as goal
 
-pub index-mut-requires : goal.index-mut-requires
-index-mut-requires c =
+pub index_mut-requires : goal.index_mut-requires
+index_mut-requires c =
     let l = has_small c.args.page (pages_of c.args.self.now.queue) c.args.self.now.queue.fits (sym c.if-contains.ensures) in
     omega arith
 

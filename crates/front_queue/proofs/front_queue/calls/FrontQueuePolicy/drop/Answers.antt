@@ -4,10 +4,10 @@ use Rattle.policy.specs.Model.{answer}
 use Rattle.front_queue.proofs.Ways.{drop_few, held_same, drop_after, front_answer, front_drop}
 use Rattle.front_queue.proofs.front_queue.calls.FrontQueuePolicy.drop.Goals as goal
 
-pub invariant-of-self : goal.invariant-of-self
-invariant-of-self g c =
+pub invariant_of-self : goal.invariant_of-self
+invariant_of-self g c =
     let v = c.args.self.now in
-    (v.most, (drop_few c.args.page (pages_of v.queue) _ v.size c.remove.ensures.pages v.few, tt))
+    record { most = v.most; few = drop_few c.args.page (pages_of v.queue) _ v.size c.remove.ensures.pages v.few }
 
 pub returns-then-remove : goal.returns-then-remove
 returns-then-remove g c =
@@ -19,10 +19,10 @@ returns-then-remove g c =
       after = front_drop g.P.Policy.model (pages_of v.queue) v.size b c.args.page v.queue.fits h _ c.remove.ensures.pages;
     }
 
-pub invariant-of-self-2 : goal.invariant-of-self-2
-invariant-of-self-2 g c =
+pub invariant_of-self-2 : goal.invariant_of-self-2
+invariant_of-self-2 g c =
     let v = c.args.self.now in
-    (v.most, (drop_few c.args.page (pages_of v.queue) _ v.size c.remove.ensures.pages v.few, tt))
+    record { most = v.most; few = drop_few c.args.page (pages_of v.queue) _ v.size c.remove.ensures.pages v.few }
 
 pub returns : goal.returns
 returns g c =

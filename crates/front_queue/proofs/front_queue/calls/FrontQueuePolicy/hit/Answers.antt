@@ -25,14 +25,14 @@ returns-then-self-eq0 g c =
       after = hit_after g.P.Policy.model (pages_of v.queue) v.size b c.args.page h _ c.if-self-eq0.true c.hit.ensures.after;
     }
 
-pub returns-in-err-drop : goal.returns-in-err-drop
-returns-in-err-drop g c =
+pub returns-in_err-drop : goal.returns-in_err-drop
+returns-in_err-drop g c =
     let v = c.args.self.now in
     let b = g.P.Policy.standing v.below in
     let h = c.if-contains.ensures in
-    let x = c.in-err-drop.ensures in
-    let y = err_from_is_err_and c.from-residual.result c.from-residual.ensures.1 in
-    let a : c.from-residual.result ≡ Err c.in-err-drop.field-0.0 = cc (y.1, y.2) in
+    let x = c.in_err-drop.ensures in
+    let y = err_from_is_err_and c.from_residual.result c.from_residual.ensures.1 in
+    let a : c.from_residual.result ≡ Err c.in_err-drop.field-0.0 = cc (y.1, y.2) in
     record {
       answer = a ∙ x.answer ∙ ap answer (held_same g.P.Policy.model (pages_of v.queue) v.size b c.args.page h);
       after = hit_refused g.P.Policy.model (pages_of v.queue) v.size b c.args.page h _ _ x.answer x.after;
@@ -43,7 +43,7 @@ returns g c =
     let v = c.args.self.now in
     let b = g.P.Policy.standing v.below in
     let h = c.if-contains.ensures in
-    let x = c.in-ok-drop.ensures in
+    let x = c.in_ok-drop.ensures in
     record {
       answer = x.answer ∙ ap answer (held_same g.P.Policy.model (pages_of v.queue) v.size b c.args.page h);
       after = c.join.ensures ∙ hit_joins g.P.Policy.model (pages_of v.queue) v.size b c.args.page h _ _ c.if-self-eq0.false x.answer x.after;

@@ -7,7 +7,7 @@ use Rattle.front_queue.proofs.front_queue.calls.FrontQueuePolicy.load.Goals as g
 
 pub join-requires : goal.join-requires
 join-requires g c =
-    let k = ok_known _ _ c.in-ok-check-absent.ensures in
+    let k = ok_known _ _ c.in_ok-check_absent.ensures in
     let h = c.holds.ensures in
     let a = has_append c.args.page (pages_of c.args.self.now.queue) (g.P.Policy.model.pages (g.P.Policy.standing c.args.self.now.below)) in
     record { page = grind (arith, nat_tests); absent = grind (arith, nat_tests) }

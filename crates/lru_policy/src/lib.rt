@@ -3,7 +3,7 @@ ghost use Rattle.std.specs.Prelude.{◌≡◌, IfOk};
 ghost use Rattle.policy.specs.Histories.{uses, GivesEarliest};
 ghost use Rattle.policy.specs.Laws.{Sound};
 ghost use Rattle.line.specs.Line.{lined};
-ghost use Rattle.lru.specs.Lru.{lru};
+ghost use Rattle.lru_policy.specs.Lru.{lru};
 
 use line::line::Line;
 use line::renewal::ByUse;
