@@ -1,4 +1,3 @@
 pub mod Reading
-pub mod ReadBack
 pub mod Printing
-pub mod Naming
+pub mod ReadBack

@@ -4,9 +4,8 @@ use Rattle.std.proofs.lemmas.List.{drop_more, drop_all, take_all}
 use Rattle.std.proofs.lemmas.Bool.{cases_lt}
 use Rattle.settings.specs.Checks.{checked}
 use Rattle.run.specs.declared.answer.Answer.{Answer}
-use Rattle.listing.specs.declared.name.PolicyName.{PolicyName}
 use Rattle.listing.specs.Lines.{answer_line}
-use Rattle.listing.specs.Listing.{numbers_with, printed, by_settings, by_numbers, too_few}
+use Rattle.listing.specs.Listing.{numbers_with, printed, by_settings, by_numbers}
 
 pub line_more : (out after : List ℕ) (ps : List ℕ) (xs : List Answer) (i : ℕ) (d : Answer) → i < length ps → i < length xs → after ≡ out ++ answer_line (get_or ps i 0) (get_or xs i d) →
     after ++ printed (drop (i + 1) ps) (drop (i + 1) xs) ≡ out ++ printed (drop i ps) (drop i xs)
@@ -22,14 +21,11 @@ lines_end out ps xs i h =
     let k : (drop i ps ≡ []) ⊎ (drop i xs ≡ []) = elim (cases_lt i (length ps)) [ inl l ↦ inr (drop_all i xs (omega arith)) | inr l ↦ inl (drop_all i ps l) ] in
     ap (λ t. out ++ t) (no_pages (drop i ps) (drop i xs) k) ∙ append-nil out
 
--- numbers with a first and a second, and without
-module _ (p : PolicyName) where
-  pub by_two : (ns : List ℕ) → 2 ≤ length ns → by_numbers p (Ok ns) ≡ by_settings p (checked (numbers_with (get_or ns 0 0) (get_or ns 1 0))) (take (length ns - 2) (drop 2 ns))
-  by_two [] h = absurd (omega arith)
-  by_two (f ∷ []) h = absurd (omega arith)
-  by_two (f ∷ k ∷ ps) h = ap (by_settings p (checked (numbers_with f k))) (sym (take_all (length (f ∷ k ∷ ps) - 2) ps (omega arith)))
+-- numbers with a first, and without
+pub by_first : (ns : List ℕ) → 0 < length ns → by_numbers (Ok ns) ≡ by_settings (checked (numbers_with (get_or ns 0 0))) (get_or ns 0 0) (take (length ns - 1) (drop 1 ns))
+by_first [] h = absurd (omega arith)
+by_first (f ∷ ps) h = ap (by_settings (checked (numbers_with f)) f) (sym (take_all (length (f ∷ ps) - 1) ps (omega arith)))
 
-  pub by_fewer : (ns : List ℕ) → length ns < 2 → by_numbers p (Ok ns) ≡ too_few
-  by_fewer [] h = refl
-  by_fewer (f ∷ []) h = refl
-  by_fewer (f ∷ k ∷ ps) h = absurd (omega arith)
+pub by_none : (ns : List ℕ) → length ns < 1 → by_numbers (Ok ns) ≡ by_numbers (Ok [])
+by_none [] h = refl
+by_none (f ∷ ps) h = absurd (omega arith)

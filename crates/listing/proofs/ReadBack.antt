@@ -1,6 +1,5 @@
 -- What is spelled out is read back, and only digits and white space are read. Assumes nothing.
-use Rattle.std.proofs.Common.{◌≡◌, ℕ, ◌+◌, ◌-◌, ◌*◌, ◌/◌, ◌%◌, ◌^◌, ◌<◌, true, List, [], ◌∷◌, ◌++◌, length, drop, Some, None, Ok, Err, decimal, Option, Result, refl, ap, ◌∙◌, append_assoc, arith}
-use Rattle.std.proofs.lemmas.List.Prefix.{front_rest}
+use Rattle.std.proofs.Common.{◌≡◌, ℕ, ◌+◌, ◌-◌, ◌*◌, ◌/◌, ◌%◌, ◌^◌, ◌<◌, true, List, [], ◌∷◌, ◌++◌, Some, None, Ok, Err, decimal, Option, Result, refl, ap, ◌∙◌, append_assoc, arith}
 use Rattle.std.proofs.lemmas.Fmt.{decimal_by_steps}
 use Rattle.std.proofs.lemmas.Bool.Decides.{nat_tests}
 use Rattle.listing.specs.declared.read.Progress.{Progress}
@@ -37,7 +36,7 @@ all_back k (n ∷ ns) s =
     g.1 ∙ ap (before (n ∷ [])) (all_back (g.0 + 1) ns t)
 
 pub reads_back : ReadsBack
-reads_back bs ns s = ap (numbers_from (length bs) None) (front_rest (bs ++ spelled ns) bs (spelled ns) refl) ∙ all_back (length bs) ns s
+reads_back ns s = all_back 0 ns s
 
 before_ok : (xs : List ℕ) (r : Result (List ℕ) ℕ) (ns : List ℕ) → before xs r ≡ Ok ns → (ys : List ℕ) × (r ≡ Ok ys)
 before_ok xs (Ok ys) ns e = (ys, refl)
@@ -59,4 +58,4 @@ all_plain (b ∷ bs) k w ns e = by (after_byte w b) (λ v ms. all_plain bs (k + 
     by Bad ih a f = let z : ◌≡◌ {A = ℕ} 0 1 = cc in absurd (omega arith)
 
 pub reads_plain : ReadsPlain
-reads_plain k bs ns e = all_plain (drop k bs) k None ns e
+reads_plain bs ns e = all_plain bs 0 None ns e

@@ -1,27 +1,20 @@
 -- What is printed of a text. Assumes nothing.
-use Rattle.std.specs.Prelude.{ℕ, List, [], ◌∷◌, ◌++◌, map, take, Some, None, Ok, Err, codes, decimal, Option, Result}
+use Rattle.std.specs.Prelude.{ℕ, List, [], ◌∷◌, ◌++◌, map, Ok, Err, codes, decimal, Result}
 use Rattle.settings.specs.declared.fault.RunFault.{RunFault}
 use Rattle.settings.specs.declared.numbers.Numbers.{Numbers}
 use Rattle.settings.specs.Refusals.{run_number}
 use Rattle.settings.specs.Checks.{checked}
-use Rattle.policy.specs.Model.{Model}
 use Rattle.fifo.specs.Fifo.{fifo}
-use Rattle.lru_policy.specs.Lru.{lru}
-use Rattle.clock.specs.Clock.{clock}
-use Rattle.front_queue.specs.Front.{fronted}
 use Rattle.run.specs.declared.answer.Event.TheVariants.{Touch}
 use Rattle.run.specs.declared.answer.Answer.{Answer}
 use Rattle.run.specs.Answers.{counted}
 use Rattle.run.specs.Run.{opened, answers}
 use Rattle.listing.specs.Lines.{answer_line, end_line}
-use Rattle.listing.specs.declared.name.PolicyName.{PolicyName}
-use Rattle.listing.specs.declared.name.PolicyName.TheVariants.{Fifo, Lru, Clock}
-use Rattle.listing.specs.Names.{named, word_end}
 use Rattle.listing.specs.Numbers.{numbers_in}
 
--- settings by the frames and the size of the front queue; a run over such a policy uses no other number
-abbrev pub numbers_with : ℕ → ℕ → Numbers
-numbers_with f k = record { frames = f; long = 20; behind = 20; nth = 1; tracked = 200; front = k }
+-- settings that only the number of frames tells apart
+abbrev pub numbers_with : ℕ → Numbers
+numbers_with f = record { frames = f; long = 20; behind = 20; nth = 1; tracked = 200; front = 0 }
 
 -- a line for each page with its answer
 abbrev pub printed : List ℕ → List Answer → List ℕ
@@ -29,42 +22,23 @@ printed [] xs = []
 printed (p ∷ ps) [] = []
 printed (p ∷ ps) (x ∷ xs) = answer_line p x ++ printed ps xs
 
--- the answers of the pages' touches, from an empty memory of f frames, and then the totals
-module _ (m : Model) (f : ℕ) (s : m.State) (ps : List ℕ) where
-  abbrev pub touch_answers : List Answer
-  touch_answers = answers m (opened m f s) (map Touch ps)
+-- the answers of the pages' touches, from an empty memory of f frames under FIFO, and then the totals
+abbrev pub fifo_answers : ℕ → List ℕ → List Answer
+fifo_answers f ps = answers fifo (opened fifo f (fifo.opening tt)) (map Touch ps)
 
-  abbrev pub played : List ℕ
-  played = printed ps touch_answers ++ end_line (counted touch_answers)
-
--- with a queue of k pages in front of a policy
-abbrev pub played_behind : (m : Model) → m.Setting → ℕ → ℕ → List ℕ → List ℕ
-played_behind m x k f ps = played (fronted m) f ((fronted m).opening (k, x)) ps
-
-abbrev pub played_over : PolicyName → ℕ → ℕ → List ℕ → List ℕ
-played_over Fifo k f ps = played_behind fifo tt k f ps
-played_over Lru k f ps = played_behind lru tt k f ps
-played_over Clock k f ps = played_behind clock tt k f ps
+abbrev pub played : ℕ → List ℕ → List ℕ
+played f ps = printed ps (fifo_answers f ps) ++ end_line (counted (fifo_answers f ps))
 
 -- refused settings are one line
-abbrev pub by_settings : PolicyName → Result Numbers RunFault → List ℕ → List ℕ
-by_settings p (Ok n) ps = played_over p n.front n.frames ps
-by_settings p (Err e) ps = codes "no " ++ (decimal (run_number e) ++ 10 ∷ [])
+abbrev pub by_settings : Result Numbers RunFault → ℕ → List ℕ → List ℕ
+by_settings (Ok n) f ps = played f ps
+by_settings (Err e) f ps = codes "no " ++ (decimal (run_number e) ++ 10 ∷ [])
 
-abbrev pub too_few : List ℕ
-too_few = codes "too few numbers: the frames and the size of the front queue come first" ++ 10 ∷ []
-
--- the first number is the number of frames, the second the size of the front queue, and the others are pages
-abbrev pub by_numbers : PolicyName → Result (List ℕ) ℕ → List ℕ
-by_numbers p (Ok []) = too_few
-by_numbers p (Ok (f ∷ [])) = too_few
-by_numbers p (Ok (f ∷ k ∷ ps)) = by_settings p (checked (numbers_with f k)) ps
-by_numbers p (Err k) = codes "malformed input: byte " ++ (decimal k ++ (codes " is part of no number below 4294967296" ++ 10 ∷ []))
-
--- the first word names the policy
-abbrev pub by_name : Option PolicyName → Result (List ℕ) ℕ → List ℕ
-by_name None ns = codes "no policy: the first word is fifo, lru or clock" ++ 10 ∷ []
-by_name (Some p) ns = by_numbers p ns
+-- the first number is the number of frames, and the others are pages
+abbrev pub by_numbers : Result (List ℕ) ℕ → List ℕ
+by_numbers (Ok []) = codes "no frames: the first number says how many there are" ++ 10 ∷ []
+by_numbers (Ok (f ∷ ps)) = by_settings (checked (numbers_with f)) f ps
+by_numbers (Err k) = codes "malformed input: byte " ++ (decimal k ++ (codes " is part of no number below 4294967296" ++ 10 ∷ []))
 
 abbrev pub listing_of : List ℕ → List ℕ
-listing_of bs = by_name (named (take (word_end bs) bs)) (numbers_in (word_end bs) bs)
+listing_of bs = by_numbers (numbers_in bs)

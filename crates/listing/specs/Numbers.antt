@@ -1,5 +1,5 @@
 -- The numbers of a text, parted by white space. Assumes nothing.
-use Rattle.std.specs.Prelude.{◌≡◌, ℕ, ◌+◌, ◌-◌, ◌*◌, ◌^◌, Bool, true, cond, ◌&&◌, ◌||◌, List, [], ◌∷◌, ◌++◌, length, drop, Some, None, Ok, Err, vec_items, decimal, Option, Result, Vec, ◌==◌, nat_le, nat_lt}
+use Rattle.std.specs.Prelude.{◌≡◌, ℕ, ◌+◌, ◌-◌, ◌*◌, ◌^◌, Bool, true, cond, ◌&&◌, ◌||◌, List, [], ◌∷◌, ◌++◌, Some, None, Ok, Err, vec_items, decimal, Option, Result, Vec, ◌==◌, nat_le, nat_lt}
 use Rattle.std.specs.declared.alloc.Global.{Global}
 use Rattle.listing.specs.declared.read.BadByte.{BadByte}
 use Rattle.listing.specs.declared.read.Progress.{Progress}
@@ -35,9 +35,8 @@ abbrev pub numbers_from : ℕ → Option ℕ → List ℕ → Result (List ℕ) 
 numbers_from k w [] = Ok (word_of w)
 numbers_from k w (b ∷ bs) = elim (after_byte w b) [ Grown n ↦ numbers_from (k + 1) (Some n) bs | Parted ↦ before (word_of w) (numbers_from (k + 1) None bs) | Bad ↦ Err k ]
 
--- the numbers of a text from place k on
-abbrev pub numbers_in : ℕ → List ℕ → Result (List ℕ) ℕ
-numbers_in k bs = numbers_from k None (drop k bs)
+abbrev pub numbers_in : List ℕ → Result (List ℕ) ℕ
+numbers_in bs = numbers_from 0 None bs
 
 -- what a reader found
 abbrev pub found_of : Result (Vec ℕ Global) BadByte → Result (List ℕ) ℕ
@@ -55,13 +54,13 @@ small (n ∷ ns) = nat_lt n (2 ^ 32) && small ns
 
 -- numbers that are spelled out are read back
 abbrev pub ReadsBack : Type 0
-ReadsBack = (bs ns : List ℕ) → small ns ≡ true → numbers_in (length bs) (bs ++ spelled ns) ≡ Ok ns
+ReadsBack = (ns : List ℕ) → small ns ≡ true → numbers_in (spelled ns) ≡ Ok ns
 
 -- every byte is white space or a digit
 abbrev pub plain : List ℕ → Bool
 plain [] = true
 plain (b ∷ bs) = (is_space b || is_digit b) && plain bs
 
--- a text with any other byte from place k on gives no numbers
+-- a text with any other byte gives no numbers
 abbrev pub ReadsPlain : Type 0
-ReadsPlain = (k : ℕ) (bs ns : List ℕ) → numbers_in k bs ≡ Ok ns → plain (drop k bs) ≡ true
+ReadsPlain = (bs ns : List ℕ) → numbers_in bs ≡ Ok ns → plain bs ≡ true

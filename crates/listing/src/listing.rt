@@ -2,13 +2,10 @@
 ghost use Rattle.std.specs.Prelude.{◌≡◌, ◌++◌, map, IfSome, IfOk, Ok, string_bytes, OnOk};
 ghost use Rattle.run.specs.declared.answer.Event.TheVariants.{Touch};
 ghost use Rattle.settings.specs.Checks.{seen, checked};
-ghost use Rattle.listing.specs.Listing.{numbers_with, printed, played, played_behind, played_over, by_settings, by_numbers, listing_of};
-ghost use Rattle.listing.specs.Numbers.{numbers_in};
+ghost use Rattle.listing.specs.Listing.{numbers_with, printed, played, by_settings, by_numbers, listing_of};
 
-use crate::name::{PolicyName, first_space, policy_named};
 use crate::print::{End, Line};
 use crate::read::numbers;
-use front_queue::front_queue::FrontQueue;
 use ordered::order::PageOrder;
 use policy::policy::Policy;
 use run::answer::{Answer, Event};
@@ -19,10 +16,9 @@ use settings::settings::Settings;
 use std::alloc::{AllocError, Global};
 use std::fmt::Display;
 
-// Settings of a run of so many frames, with a front queue of so many pages. Such a run uses no other number, so the others are any that are
-// accepted.
-fn settings_with(frames: u32, front: u32) -> Result<Settings, RunFault>
-    ensures { seen result ≡ checked (numbers_with frames front) }
+// Settings of a run of so many frames. A run over FIFO uses no other number, so the others are any that are accepted.
+fn framed(frames: u32) -> Result<Settings, RunFault>
+    ensures { seen result ≡ checked (numbers_with frames) }
 {
     Settings::new(Numbers {
         frames,
@@ -30,7 +26,7 @@ fn settings_with(frames: u32, front: u32) -> Result<Settings, RunFault>
         behind: 20,
         nth: 1,
         tracked: 200,
-        front,
+        front: 0,
     })
 }
 
@@ -47,7 +43,7 @@ fn touches(heap: Global, pages: &[u32]) -> Result<Vec<Event>, AllocError>
 
 // Puts what is printed behind the rest.
 fn put<L: Display + Drop>(out: &mut String, line: L) -> Result<(), AllocError>
-    ensures { OnOk result (IfSome (output line) (λ bs. string_bytes out.new ≡ string_bytes out.old ++ bs)) }
+    ensures { OnOk result (IfSome (L.output line) (λ bs. string_bytes out.new ≡ string_bytes out.old ++ bs)) }
 {
     match out.write(line) {
         Ok(()) => Ok(()),
@@ -71,15 +67,11 @@ fn lines(heap: Global, pages: &[u32], answers: &[Answer]) -> Result<String, Allo
     Ok(out)
 }
 
-// Plays the pages over a policy: a line for each touch, and then the totals.
-fn play_pages<P: Policy + Drop>(
-    heap: Global,
-    settings: Settings,
-    policy: P,
-    pages: &[u32],
-) -> Result<String, AllocError>
-    ensures { IfOk result (λ s. string_bytes s ≡ played P.model settings.frames (P.standing policy) pages.now) }
+// Plays the pages over FIFO: a line for each touch, and then the totals.
+fn play_pages(heap: Global, settings: Settings, pages: &[u32]) -> Result<String, AllocError>
+    ensures { IfOk result (λ s. string_bytes s ≡ played settings.frames pages.now) }
 {
+    let policy = fifo::make(heap)?;
     let events = touches(heap, pages)?;
     let Played { answers, run } = play(heap, settings, policy, events.as_slice())?;
     let mut out = lines(heap, pages, answers.as_slice())?;
@@ -88,47 +80,12 @@ fn play_pages<P: Policy + Drop>(
     Ok(out)
 }
 
-// The same with a front queue before the policy.
-fn play_behind<P: Policy + Drop>(
-    heap: Global,
-    settings: Settings,
-    below: P,
-    pages: &[u32],
-) -> Result<String, AllocError>
-    ensures { IfOk result (λ s. string_bytes s ≡ played_behind P.model (P.model.setting (P.standing below)) settings.front settings.frames pages.now) }
-{
-    let policy = FrontQueue::new(heap, settings, below)?;
-    play_pages(heap, settings, policy, pages)
-}
-
-// The same over the policy that was named.
-fn play_over(
-    heap: Global,
-    name: PolicyName,
-    settings: Settings,
-    pages: &[u32],
-) -> Result<String, AllocError>
-    ensures { IfOk result (λ s. string_bytes s ≡ played_over name settings.front settings.frames pages.now) }
-{
-    match name {
-        PolicyName::Fifo => play_behind(heap, settings, fifo::make(heap)?, pages),
-        PolicyName::Lru => play_behind(heap, settings, lru::make(heap)?, pages),
-        PolicyName::Clock => play_behind(heap, settings, clock::make(heap)?, pages),
-    }
-}
-
 // The lines that the settings' numbers ask for, where they are settings.
-fn play_with(
-    heap: Global,
-    name: PolicyName,
-    frames: u32,
-    front: u32,
-    pages: &[u32],
-) -> Result<String, AllocError>
-    ensures { IfOk result (λ s. string_bytes s ≡ by_settings name (checked (numbers_with frames front)) pages.now) }
+fn play_framed(heap: Global, frames: u32, pages: &[u32]) -> Result<String, AllocError>
+    ensures { IfOk result (λ s. string_bytes s ≡ by_settings (checked (numbers_with frames)) frames pages.now) }
 {
-    match settings_with(frames, front) {
-        Ok(settings) => play_over(heap, name, settings, pages),
+    match framed(frames) {
+        Ok(settings) => play_pages(heap, settings, pages),
         Err(fault) => {
             let number = fault.number();
             format!(in heap; "no {number}\n")
@@ -136,29 +93,22 @@ fn play_with(
     }
 }
 
-// The first number is the number of frames, the second the size of the front queue, and the others are pages.
-fn play_numbers(heap: Global, name: PolicyName, numbers: &[u32]) -> Result<String, AllocError>
-    ensures { IfOk result (λ s. string_bytes s ≡ by_numbers name (Ok numbers.now)) }
+// The first number is the number of frames, and the others are pages.
+fn play_numbers(heap: Global, numbers: &[u32]) -> Result<String, AllocError>
+    ensures { IfOk result (λ s. string_bytes s ≡ by_numbers (Ok numbers.now)) }
 {
-    let [frames, front, pages @ ..] = numbers else {
-        return format!(in heap;
-            "too few numbers: the frames and the size of the front queue come first\n"
-        );
+    let [frames, pages @ ..] = numbers else {
+        return format!(in heap; "no frames: the first number says how many there are\n");
     };
-    play_with(heap, name, *frames, *front, pages)
+    play_framed(heap, *frames, pages)
 }
 
-// The lines that the numbers of a text from a place on ask for.
-fn play_text(
-    heap: Global,
-    name: PolicyName,
-    text: &[u8],
-    start: usize,
-) -> Result<String, AllocError>
-    ensures { IfOk result (λ s. string_bytes s ≡ by_numbers name (numbers_in start text.now)) }
+// The lines that a text asks for.
+pub fn listing(heap: Global, text: &[u8]) -> Result<String, AllocError>
+    ensures { IfOk result (λ s. string_bytes s ≡ listing_of text.now) }
 {
-    match numbers(heap, text, start)? {
-        Ok(found) => play_numbers(heap, name, found.as_slice()),
+    match numbers(heap, text)? {
+        Ok(found) => play_numbers(heap, found.as_slice()),
         Err(bad) => {
             let at = bad.at;
             format!(in heap; "malformed input: byte {at} is part of no number below 4294967296\n")
@@ -166,13 +116,40 @@ fn play_text(
     }
 }
 
-// The lines that a text asks for.
-pub fn listing(heap: Global, text: &[u8]) -> Result<String, AllocError>
-    ensures { IfOk result (λ s. string_bytes s ≡ listing_of text.now) }
-{
-    let end = first_space(text);
-    let Some(name) = policy_named(&text[0..end]) else {
-        return format!(in heap; "no policy: the first word is fifo, lru or clock\n");
-    };
-    play_text(heap, name, text, end)
+#[cfg(test)]
+mod tests {
+    use super::*;
+    use std::test::Fail;
+
+    // Each text with what is printed of it.
+    const CASES: [(&[u8], &str); 7] = [
+        (b"2 1 2 1 3", "f 1\nf 2\nh 1\nf 3 1\nend 4 3 1\n"),
+        (
+            b"\t1 4096\n7 70000 7\r\n",
+            "no 1\nf 7\nno 1\nh 7\nend 2 1 0\n",
+        ),
+        (b"1025 1", "no 3\n"),
+        (b"0", "no 3\n"),
+        (
+            b" \n",
+            "no frames: the first number says how many there are\n",
+        ),
+        (
+            b"2 1 x",
+            "malformed input: byte 4 is part of no number below 4294967296\n",
+        ),
+        (
+            b"1 4294967296",
+            "malformed input: byte 11 is part of no number below 4294967296\n",
+        ),
+    ];
+
+    #[test]
+    fn prints_what_each_text_asks_for(rt: HostRuntime) -> Result<(), Fail> {
+        for (text, lines) in CASES.iter() {
+            let printed = listing(rt.alloc(), text)?;
+            assert_eq!(rt; printed.as_str(), *lines);
+        }
+        Ok(())
+    }
 }

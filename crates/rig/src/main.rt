@@ -1,5 +1,4 @@
-// Reads the name of a policy, a number of frames, the size of a front queue and pages from standard input, and prints what each touch came to and
-// the totals.
+// Reads a number of frames and pages from standard input, and prints what each touch came to over FIFO and the totals.
 use listing::listing::listing;
 use std::io::{Read, Write};
 

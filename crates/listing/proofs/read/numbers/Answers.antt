@@ -3,7 +3,7 @@ use Rattle.std.proofs.lemmas.Result.{IfOk-from_err}
 use Rattle.listing.proofs.ReadBack.{reads_back, reads_plain}
 use Rattle.listing.proofs.Reading.{rest_gives, grown, parted, bad, ended}
 use Rattle.listing.proofs.read.numbers.Goals as goal
-use Rattle.listing.proofs.read.numbers.Goals.{in_Grown, in_Parted+in_ok_part}
+use Rattle.listing.proofs.read.numbers.Goals.{in-Grown, in-Parted+in_ok-part-in-Parted}
 
 pub returns-in-Bad : goal.returns-in-Bad
 returns-in-Bad c = record { back = reads_back; plain = reads_plain; found = sym (sym c.loop-at.invariant ∙ bad (vec_items c.loop-at.found) c.loop-at.word c.args.text.now c.loop-at.at c.loop-at-test.true (sym c.in-Bad.ensures)) }
@@ -17,15 +17,15 @@ loop-at-preserved c =
     let bs = c.args.text.now in
     let k = c.loop-at.at in
     elim c.match-step.branch [
-      | in_Grown w ↦ same (ap vec_items w.found-is) w.word-is bs k ∙ grown xs c.loop-at.word bs k w.in_Grown.n c.loop-at-test.true (sym w.in_Grown.ensures) ∙ c.loop-at.invariant
-      | in_Parted+in_ok_part w ↦ same (ap vec_items w.found-is) w.word-is bs k ∙ parted xs c.loop-at.word bs k _ c.loop-at-test.true (sym w.in_Parted.ensures) w.in_ok_part.ensures ∙ c.loop-at.invariant
+      | in-Grown w ↦ same (ap vec_items w.found-is) w.word-is bs k ∙ grown xs c.loop-at.word bs k w.in-Grown.n c.loop-at-test.true (sym w.in-Grown.ensures) ∙ c.loop-at.invariant
+      | in-Parted+in_ok-part-in-Parted w ↦ same (ap vec_items w.found-is) w.word-is bs k ∙ parted xs c.loop-at.word bs k _ c.loop-at-test.true (sym w.in-Parted.ensures) w.in_ok-part-in-Parted.ensures ∙ c.loop-at.invariant
     ]
 
 pub returns-in_err-part : goal.returns-in_err-part
 returns-in_err-part c = record { back = reads_back; plain = reads_plain; found = search (rules, IfOk-from_err) }
 
-pub returns-in_err-part-2 : goal.returns-in_err-part-2
-returns-in_err-part-2 c = record { back = reads_back; plain = reads_plain; found = search (rules, IfOk-from_err) }
+pub returns-in_err-part-in-Parted : goal.returns-in_err-part-in-Parted
+returns-in_err-part-in-Parted c = record { back = reads_back; plain = reads_plain; found = search (rules, IfOk-from_err) }
 
 pub returns : goal.returns
-returns c = record { back = reads_back; plain = reads_plain; found = sym (sym c.loop-at.invariant ∙ ended (vec_items c.loop-at.found) c.loop-at.word c.args.text.now c.loop-at.at _ c.loop-at-test.false c.in_ok-part-2.ensures) }
+returns c = record { back = reads_back; plain = reads_plain; found = sym (sym c.loop-at.invariant ∙ ended (vec_items c.loop-at.found) c.loop-at.word c.args.text.now c.loop-at.at _ c.loop-at-test.false c.in_ok-part.ensures) }

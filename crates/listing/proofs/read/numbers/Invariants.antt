@@ -3,6 +3,6 @@ use Rattle.listing.specs.Numbers.{numbers_in}
 use Rattle.listing.proofs.Reading.{rest_gives}
 use Rattle.listing.proofs.read.numbers.Given as goal
 
--- the numbers found, the word so far and the rest of the text give what the text gives from the start on
+-- the numbers found, the word so far and the rest of the text give what the text gives
 abbrev pub invariant-loop-at : goal.invariant-loop-at
-invariant-loop-at l = rest_gives (vec_items l.found) l.word l.text l.at ≡ numbers_in l.start l.text
+invariant-loop-at l = rest_gives (vec_items l.found) l.word l.text l.at ≡ numbers_in l.text
