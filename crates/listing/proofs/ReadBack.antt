@@ -1,10 +1,11 @@
 -- What is spelled out is read back, and only digits and white space are read. Assumes nothing.
-use Rattle.std.proofs.Common.{◌≡◌, ℕ, ◌+◌, ◌-◌, ◌*◌, ◌/◌, ◌%◌, ◌^◌, ◌<◌, true, List, [], ◌∷◌, ◌++◌, Some, None, Ok, Err, decimal, Option, Result, refl, ap, ◌∙◌, append_assoc, arith}
+use Rattle.std.proofs.Common.{◌≡◌, ℕ, ◌+◌, ◌-◌, ◌*◌, ◌/◌, ◌%◌, ◌^◌, ◌<◌, true, List, [], ◌∷◌, ◌++◌, length, drop, Some, None, Ok, Err, decimal, Option, Result, refl, ap, ◌∙◌, append_assoc, arith}
+use Rattle.std.proofs.lemmas.List.Prefix.{front_rest}
 use Rattle.std.proofs.lemmas.Fmt.{decimal_by_steps}
 use Rattle.std.proofs.lemmas.Bool.Decides.{nat_tests}
 use Rattle.listing.specs.declared.read.Progress.{Progress}
 use Rattle.listing.specs.declared.read.Progress.TheVariants.{Grown, Parted, Bad}
-use Rattle.listing.specs.Numbers.{is_space, is_digit, value_of, word_of, after_byte, before, numbers_from, spelled, small, plain, ReadsBack, ReadsPlain}
+use Rattle.listing.specs.Numbers.{is_space, is_digit, value_of, word_of, after_byte, before, numbers_from, spelled, small, plain, ReadsBack, ReadsBackBehind, ReadsPlain, ReadsPlainBehind}
 
 -- a digit makes the next number
 digit_grows : (w : Option ℕ) (d n : ℕ) → d < 10 → value_of w * 10 + d ≡ n → n < 2 ^ 32 → after_byte w (48 + d) ≡ Grown n
@@ -38,6 +39,9 @@ all_back k (n ∷ ns) s =
 pub reads_back : ReadsBack
 reads_back ns s = all_back 0 ns s
 
+pub reads_back_behind : ReadsBackBehind
+reads_back_behind bs ns s = ap (numbers_from (length bs) None) (front_rest (bs ++ spelled ns) bs (spelled ns) refl) ∙ all_back (length bs) ns s
+
 before_ok : (xs : List ℕ) (r : Result (List ℕ) ℕ) (ns : List ℕ) → before xs r ≡ Ok ns → (ys : List ℕ) × (r ≡ Ok ys)
 before_ok xs (Ok ys) ns e = (ys, refl)
 before_ok xs (Err k) ns e = let z : ◌≡◌ {A = ℕ} 0 1 = cc in absurd (omega arith)
@@ -59,3 +63,6 @@ all_plain (b ∷ bs) k w ns e = by (after_byte w b) (λ v ms. all_plain bs (k + 
 
 pub reads_plain : ReadsPlain
 reads_plain bs ns e = all_plain bs 0 None ns e
+
+pub reads_plain_behind : ReadsPlainBehind
+reads_plain_behind k bs ns e = all_plain (drop k bs) k None ns e

@@ -4,6 +4,7 @@ use Rattle.settings.specs.declared.fault.RunFault.{RunFault}
 use Rattle.settings.specs.declared.numbers.Numbers.{Numbers}
 use Rattle.settings.specs.Refusals.{run_number}
 use Rattle.settings.specs.Checks.{checked}
+use Rattle.policy.specs.Model.{Model}
 use Rattle.fifo.specs.Fifo.{fifo}
 use Rattle.run.specs.declared.answer.Event.TheVariants.{Touch}
 use Rattle.run.specs.declared.answer.Answer.{Answer}
@@ -28,6 +29,14 @@ fifo_answers f ps = answers fifo (opened fifo f (fifo.opening tt)) (map Touch ps
 
 abbrev pub played : ℕ → List ℕ → List ℕ
 played f ps = printed ps (fifo_answers f ps) ++ end_line (counted (fifo_answers f ps))
+
+-- the same under any policy, from standing s
+module _ (m : Model) (f : ℕ) (s : m.State) (ps : List ℕ) where
+  abbrev pub answers_over : List Answer
+  answers_over = answers m (opened m f s) (map Touch ps)
+
+  abbrev pub played_over : List ℕ
+  played_over = printed ps answers_over ++ end_line (counted answers_over)
 
 -- refused settings are one line
 abbrev pub by_settings : Result Numbers RunFault → ℕ → List ℕ → List ℕ

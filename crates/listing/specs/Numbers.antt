@@ -1,5 +1,5 @@
 -- The numbers of a text, parted by white space. Assumes nothing.
-use Rattle.std.specs.Prelude.{◌≡◌, ℕ, ◌+◌, ◌-◌, ◌*◌, ◌^◌, Bool, true, cond, ◌&&◌, ◌||◌, List, [], ◌∷◌, ◌++◌, Some, None, Ok, Err, vec_items, decimal, Option, Result, Vec, ◌==◌, nat_le, nat_lt}
+use Rattle.std.specs.Prelude.{◌≡◌, ℕ, ◌+◌, ◌-◌, ◌*◌, ◌^◌, Bool, true, cond, ◌&&◌, ◌||◌, List, [], ◌∷◌, ◌++◌, length, drop, Some, None, Ok, Err, vec_items, decimal, Option, Result, Vec, ◌==◌, nat_le, nat_lt}
 use Rattle.std.specs.declared.alloc.Global.{Global}
 use Rattle.listing.specs.declared.read.BadByte.{BadByte}
 use Rattle.listing.specs.declared.read.Progress.{Progress}
@@ -38,6 +38,10 @@ numbers_from k w (b ∷ bs) = elim (after_byte w b) [ Grown n ↦ numbers_from (
 abbrev pub numbers_in : List ℕ → Result (List ℕ) ℕ
 numbers_in bs = numbers_from 0 None bs
 
+-- the numbers of a text from place k on
+abbrev pub numbers_behind : ℕ → List ℕ → Result (List ℕ) ℕ
+numbers_behind k bs = numbers_from k None (drop k bs)
+
 -- what a reader found
 abbrev pub found_of : Result (Vec ℕ Global) BadByte → Result (List ℕ) ℕ
 found_of (Ok v) = Ok (vec_items v)
@@ -64,3 +68,11 @@ plain (b ∷ bs) = (is_space b || is_digit b) && plain bs
 -- a text with any other byte gives no numbers
 abbrev pub ReadsPlain : Type 0
 ReadsPlain = (bs ns : List ℕ) → numbers_in bs ≡ Ok ns → plain bs ≡ true
+
+-- the same of a text behind another
+abbrev pub ReadsBackBehind : Type 0
+ReadsBackBehind = (bs ns : List ℕ) → small ns ≡ true → numbers_behind (length bs) (bs ++ spelled ns) ≡ Ok ns
+
+-- and of a text from place k on
+abbrev pub ReadsPlainBehind : Type 0
+ReadsPlainBehind = (k : ℕ) (bs ns : List ℕ) → numbers_behind k bs ≡ Ok ns → plain (drop k bs) ≡ true

@@ -2,7 +2,7 @@
 ghost use Rattle.std.specs.Prelude.{◌≡◌, ◌++◌, map, IfSome, IfOk, Ok, string_bytes, OnOk};
 ghost use Rattle.run.specs.declared.answer.Event.TheVariants.{Touch};
 ghost use Rattle.settings.specs.Checks.{seen, checked};
-ghost use Rattle.listing.specs.Listing.{numbers_with, printed, played, by_settings, by_numbers, listing_of};
+ghost use Rattle.listing.specs.Listing.{numbers_with, printed, played, played_over, by_settings, by_numbers, listing_of};
 
 use crate::print::{End, Line};
 use crate::read::numbers;
@@ -67,17 +67,24 @@ fn lines(heap: Global, pages: &[u32], answers: &[Answer]) -> Result<String, Allo
     Ok(out)
 }
 
-// Plays the pages over FIFO: a line for each touch, and then the totals.
-fn play_pages(heap: Global, settings: Settings, pages: &[u32]) -> Result<String, AllocError>
-    ensures { IfOk result (λ s. string_bytes s ≡ played settings.frames pages.now) }
+// Plays the pages over a policy: a line for each touch, and then the totals.
+pub fn play_over<P: Policy + Drop>(heap: Global, settings: Settings, policy: P, pages: &[u32]) -> Result<String, AllocError>
+    ensures { IfOk result (λ s. string_bytes s ≡ played_over P.model settings.frames (P.standing policy) pages.now) }
 {
-    let policy = fifo::make(heap)?;
     let events = touches(heap, pages)?;
     let Played { answers, run } = play(heap, settings, policy, events.as_slice())?;
     let mut out = lines(heap, pages, answers.as_slice())?;
     let figures = run.close().figures();
     put(&mut out, End { figures })?;
     Ok(out)
+}
+
+// Plays the pages over FIFO.
+fn play_pages(heap: Global, settings: Settings, pages: &[u32]) -> Result<String, AllocError>
+    ensures { IfOk result (λ s. string_bytes s ≡ played settings.frames pages.now) }
+{
+    let policy = fifo::make(heap)?;
+    play_over(heap, settings, policy, pages)
 }
 
 // The lines that the settings' numbers ask for, where they are settings.

@@ -1,6 +1,6 @@
 // A text of numbers parted by white space.
 ghost use Rattle.std.specs.Prelude.{◌≡◌, ◌++◌, IfOk, OnOk};
-ghost use Rattle.listing.specs.Numbers.{ReadsBack, ReadsPlain, after_byte, found_of, numbers_in, word_of};
+ghost use Rattle.listing.specs.Numbers.{ReadsBack, ReadsBackBehind, ReadsPlain, ReadsPlainBehind, after_byte, found_of, is_space, numbers_behind, numbers_in, word_of};
 
 use std::alloc::{AllocError, Global};
 
@@ -18,10 +18,17 @@ pub enum Progress {
     Bad,
 }
 
+// A space, a line end, a carriage return or a tab.
+pub fn is_space(byte: u8) -> bool
+    ensures { result ≡ is_space byte }
+{
+    byte == b' ' || byte == b'\n' || byte == b'\r' || byte == b'\t'
+}
+
 fn step(word: Option<u32>, byte: u8) -> Progress
     ensures { result ≡ after_byte word byte }
 {
-    if byte == b' ' || byte == b'\n' || byte == b'\r' || byte == b'\t' {
+    if is_space(byte) {
         return Progress::Parted;
     }
     if byte < b'0' || byte > b'9' {
@@ -45,16 +52,16 @@ fn part(found: &mut Vec<u32>, word: Option<u32>) -> Result<(), AllocError>
     Ok(())
 }
 
-// The numbers of a text, in order, or its first bad byte.
-pub fn numbers(heap: Global, text: &[u8]) -> Result<Result<Vec<u32>, BadByte>, AllocError>
-    ensures found { IfOk result (λ x. found_of x ≡ numbers_in text.now) }
-    ensures back { ReadsBack }
-    ensures plain { ReadsPlain }
+// The numbers of a text from a place on, in order, or the first bad byte from there.
+pub fn numbers_behind(heap: Global, text: &[u8], start: usize) -> Result<Result<Vec<u32>, BadByte>, AllocError>
+    ensures found { IfOk result (λ x. found_of x ≡ numbers_behind start text.now) }
+    ensures back { ReadsBackBehind }
+    ensures plain { ReadsPlainBehind }
 {
     let mut found = Vec::new(heap);
     let mut word = None;
-    for (at, byte) in text.iter().enumerate() {
-        match step(word, *byte) {
+    for at in start..text.len() {
+        match step(word, text[at]) {
             Progress::Grown(n) => word = Some(n),
             Progress::Parted => {
                 part(&mut found, word)?;
@@ -65,4 +72,13 @@ pub fn numbers(heap: Global, text: &[u8]) -> Result<Result<Vec<u32>, BadByte>, A
     }
     part(&mut found, word)?;
     Ok(Ok(found))
+}
+
+// The numbers of a text, in order, or its first bad byte.
+pub fn numbers(heap: Global, text: &[u8]) -> Result<Result<Vec<u32>, BadByte>, AllocError>
+    ensures found { IfOk result (λ x. found_of x ≡ numbers_in text.now) }
+    ensures back { ReadsBack }
+    ensures plain { ReadsPlain }
+{
+    numbers_behind(heap, text, 0)
 }

@@ -1,0 +1,8 @@
+use Rattle.std.proofs.Common.{◌≡◌, vec_items}
+use Rattle.listing.specs.Numbers.{numbers_behind}
+use Rattle.listing.proofs.Reading.{rest_gives}
+use Rattle.listing.proofs.read.numbers_behind.Given as goal
+
+-- the numbers found, the word so far and the rest of the text give what the text gives from the start on
+abbrev pub invariant-loop-at : goal.invariant-loop-at
+invariant-loop-at l = rest_gives (vec_items l.found) l.word l.text l.at ≡ numbers_behind l.start l.text
