@@ -5,9 +5,9 @@ ghost use Rattle.named_listing.specs.Listing.{numbers_with, played_behind, playe
 ghost use Rattle.listing.specs.Numbers.{numbers_behind};
 
 use crate::name::{PolicyName, first_space, policy_named};
+use front_queue::front_queue::FrontQueue;
 use listing::listing::play_over;
 use listing::read::numbers_behind;
-use front_queue::front_queue::FrontQueue;
 use policy::policy::Policy;
 use settings::fault::RunFault;
 use settings::numbers::Numbers;

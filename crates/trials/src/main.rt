@@ -1,5 +1,5 @@
 // Plays each line of standard input as a text of its own: prints the line behind `> `, and then the lines that it asks for.
-use listing::listing::listing;
+use named_listing::listing::listing;
 
 fn run(rt: &HostRuntime) -> anyhow::Result<()> {
     let heap = rt.alloc();
