@@ -1,4 +1,6 @@
 // CLOCK: a page that was hit since it was loaded or last passed over is passed over; the first that was not goes.
+#![tactic(auto)]
+
 ghost use Rattle.std.specs.Prelude.{◌≡◌, IfOk};
 ghost use Rattle.policy.specs.Laws.{Sound};
 ghost use Rattle.clock.specs.Clock.{clock, clock_of, ClockLaws};

@@ -1,4 +1,6 @@
 // FIFO: of the pages held, the one that was loaded earliest goes first.
+#![tactic(auto)]
+
 ghost use Rattle.std.specs.Prelude.{◌≡◌, IfOk};
 ghost use Rattle.policy.specs.Histories.{loads, GivesEarliest};
 ghost use Rattle.policy.specs.Laws.{Sound};

@@ -1,4 +1,6 @@
 // An order of pages by when each was loaded, or last used, and policies over it.
+#![tactic(auto)]
+
 ghost use Rattle.std.specs.Prelude.{◌≡◌, IfOk};
 ghost use Rattle.policy.specs.Histories.{loads_or_hits, GivesEarliest};
 ghost use Rattle.policy.specs.Laws.{Sound};

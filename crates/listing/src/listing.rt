@@ -68,7 +68,12 @@ fn lines(heap: Global, pages: &[u32], answers: &[Answer]) -> Result<String, Allo
 }
 
 // Plays the pages over a policy: a line for each touch, and then the totals.
-pub fn play_over<P: Policy + Drop>(heap: Global, settings: Settings, policy: P, pages: &[u32]) -> Result<String, AllocError>
+pub fn play_over<P: Policy + Drop>(
+    heap: Global,
+    settings: Settings,
+    policy: P,
+    pages: &[u32],
+) -> Result<String, AllocError>
     ensures { IfOk result (λ s. string_bytes s ≡ played_over P.model settings.frames (P.standing policy) pages.now) }
 {
     let events = touches(heap, pages)?;

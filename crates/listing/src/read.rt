@@ -53,7 +53,11 @@ fn part(found: &mut Vec<u32>, word: Option<u32>) -> Result<(), AllocError>
 }
 
 // The numbers of a text from a place on, in order, or the first bad byte from there.
-pub fn numbers_behind(heap: Global, text: &[u8], start: usize) -> Result<Result<Vec<u32>, BadByte>, AllocError>
+pub fn numbers_behind(
+    heap: Global,
+    text: &[u8],
+    start: usize,
+) -> Result<Result<Vec<u32>, BadByte>, AllocError>
     ensures found { IfOk result (λ x. found_of x ≡ numbers_behind start text.now) }
     ensures back { ReadsBackBehind }
     ensures plain { ReadsPlainBehind }

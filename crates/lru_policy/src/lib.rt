@@ -1,4 +1,6 @@
 // LRU: of the pages held, the one that was loaded or hit longest ago goes first.
+#![tactic(auto)]
+
 ghost use Rattle.std.specs.Prelude.{◌≡◌, IfOk};
 ghost use Rattle.policy.specs.Histories.{uses, GivesEarliest};
 ghost use Rattle.policy.specs.Laws.{Sound};

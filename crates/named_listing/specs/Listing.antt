@@ -1,5 +1,5 @@
 -- What is printed of a text that names its policy. Assumes nothing.
-use Rattle.std.specs.Prelude.{ℕ, List, [], ◌∷◌, ◌++◌, map, take, Some, None, Ok, Err, codes, decimal, Option, Result}
+use Rattle.std.specs.Prelude.{ℕ, List, [], ◌∷◌, ◌++◌, take, Some, None, Ok, Err, codes, decimal, Option, Result}
 use Rattle.settings.specs.declared.fault.RunFault.{RunFault}
 use Rattle.settings.specs.declared.numbers.Numbers.{Numbers}
 use Rattle.settings.specs.Refusals.{run_number}
@@ -9,10 +9,6 @@ use Rattle.fifo.specs.Fifo.{fifo}
 use Rattle.lru_policy.specs.Lru.{lru}
 use Rattle.clock.specs.Clock.{clock}
 use Rattle.front_queue.specs.Front.{fronted}
-use Rattle.run.specs.declared.answer.Event.TheVariants.{Touch}
-use Rattle.run.specs.declared.answer.Answer.{Answer}
-use Rattle.run.specs.Answers.{counted}
-use Rattle.run.specs.Run.{opened, answers}
 use Rattle.listing.specs.Listing.{played_over}
 use Rattle.named_listing.specs.declared.name.PolicyName.{PolicyName}
 use Rattle.named_listing.specs.declared.name.PolicyName.TheVariants.{Fifo, Lru, Clock}

@@ -9,7 +9,6 @@ use Rattle.policy.specs.Laws.{Sound, Lawful, Gives}
 use Rattle.policy.proofs.Accepted.{fault_accepts, load_accepts, held_accepts}
 use Rattle.policy.proofs.Calls.{accepted_sound}
 use Rattle.settings.specs.declared.fault.Layer.{Layer}
-use Rattle.settings.specs.declared.fault.Layer.TheVariants as layer
 use Rattle.settings.specs.declared.fault.RunFault.{RunFault}
 use Rattle.settings.specs.declared.fault.RunFault.TheVariants as refusals
 use Rattle.run.specs.declared.answer.Touched.{Touched}

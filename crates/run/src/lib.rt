@@ -1,4 +1,6 @@
 // Runs: pages touched and released one by one, in a memory of so many frames, under any policy.
+#![tactic(auto)]
+
 pub mod answer;
 pub mod closed;
 pub mod open;

@@ -2,7 +2,6 @@
 use Rattle.std.proofs.Common.{◌≡◌, ℕ, ◌≤◌, true, Result, sym, refl, subst, inl, inr, arith}
 use Rattle.std.proofs.lemmas.Bool.{cases_Bool, le-ltb, lt-ltb}
 use Rattle.std.proofs.lemmas.Bool.Decides.{nat_tests}
-use Rattle.settings.specs.declared.fault.Layer.TheVariants as layer
 use Rattle.settings.specs.declared.fault.RunFault.{RunFault}
 use Rattle.settings.specs.declared.numbers.Numbers.{Numbers}
 use Rattle.settings.specs.Checks.{within, in_ranges, checked, Ranged, SettingsTold}
