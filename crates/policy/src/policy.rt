@@ -53,6 +53,6 @@ pub trait Policy {
     fn faults(&self) -> u32
         ensures { result ≡ model.count (standing self.now) };
 
-    // The laws of the interface.
+    // The lines of the interface.
     ghost laws: { Lawful model };
 }

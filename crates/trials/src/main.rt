@@ -1,7 +1,7 @@
 // Plays each line of standard input as a text of its own: prints the line behind `> `, and then the lines that it asks for.
 #![tactic(auto)]
 
-use named_listing::listing::listing;
+use named_listing::texts::listing;
 
 fn run(rt: &HostRuntime) -> anyhow::Result<()> {
     let heap = rt.alloc();

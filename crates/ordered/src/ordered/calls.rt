@@ -1,6 +1,7 @@
 // The calls of a policy over an order.
 ghost use Rattle.std.specs.Prelude.{◌≡◌};
 ghost use Rattle.policy.specs.Laws.{Sound};
+ghost use Rattle.policy.specs.Model.{answer, absent_refusal, held_refusal};
 ghost use Rattle.ordered.specs.Ordered.{ordered, state_of};
 ghost use Rattle.std.proofs.Common.{rules};
 
@@ -20,6 +21,20 @@ impl<O: PageOrder> Ordered<O> {
         order.clear();
         Ordered { order, faults: 0 }
     }
+
+    // Refuses what is no page, and what is held.
+    fn check_absent(&self, page: u32) -> Result<(), PolicyFault>
+        ensures { result ≡ answer (absent_refusal (ordered O.orders) (state_of O.placed self.now) page) }
+    {
+        check_absent(page, self.order.contains(page))
+    }
+
+    // Refuses what is no page, and what is not held.
+    fn check_held(&self, page: u32) -> Result<(), PolicyFault>
+        ensures { result ≡ answer (held_refusal (ordered O.orders) (state_of O.placed self.now) page) }
+    {
+        check_held(page, self.order.contains(page))
+    }
 }
 
 impl<O: PageOrder> Policy for Ordered<O> {
@@ -35,7 +50,7 @@ impl<O: PageOrder> Policy for Ordered<O> {
     }
 
     fn fault(&mut self, page: u32) -> Result<(), PolicyFault> {
-        check_absent(page, self.order.contains(page))?;
+        self.check_absent(page)?;
         if self.faults >= MOST_FAULTS {
             return Err(PolicyFault::TooManyFaults);
         }
@@ -44,7 +59,7 @@ impl<O: PageOrder> Policy for Ordered<O> {
     }
 
     fn load(&mut self, page: u32) -> Result<(), PolicyFault> {
-        check_absent(page, self.order.contains(page))?;
+        self.check_absent(page)?;
         if self.order.len() >= MOST_PAGES {
             return Err(PolicyFault::Full);
         }
@@ -53,13 +68,13 @@ impl<O: PageOrder> Policy for Ordered<O> {
     }
 
     fn hit(&mut self, page: u32) -> Result<(), PolicyFault> {
-        check_held(page, self.order.contains(page))?;
+        self.check_held(page)?;
         self.order.hit(page);
         Ok(())
     }
 
     fn drop(&mut self, page: u32) -> Result<(), PolicyFault> {
-        check_held(page, self.order.contains(page))?;
+        self.check_held(page)?;
         self.order.remove(page);
         Ok(())
     }

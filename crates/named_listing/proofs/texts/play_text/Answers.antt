@@ -1,6 +1,6 @@
 use Rattle.std.proofs.Common.{◌≡◌, Err, sym, ap, ◌∙◌, rules}
 use Rattle.listing.specs.Numbers.{numbers_behind, found_of}
-use Rattle.named_listing.proofs.listing.play_text.Goals as goal
+use Rattle.named_listing.proofs.texts.play_text.Goals as goal
 
 pub returns-in-Err : goal.returns-in-Err
 returns-in-Err c =
