@@ -13,12 +13,28 @@ use Rattle.policy.proofs.Ages.{latest_low, not_numbered}
 use Rattle.ordered.specs.Ordered.{ordered}
 use Rattle.line.specs.Line.{line}
 
-module _ (b : Bool) where
+-- such calls are the loads, and where hits renew, the hits too
+pub record Such (b : Bool) (such : ℕ → Call → Bool) : Type 0 where
+  pub on_clear : (q : ℕ) → such q clear ≡ false
+  pub on_fault : (q p : ℕ) → such q (fault p) ≡ false
+  pub on_load : (q p : ℕ) → such q (load p) ≡ eqb p q
+  pub on_hit : (q p : ℕ) → such q (hit p) ≡ (b && eqb p q)
+  pub on_drop : (q p : ℕ) → such q (drop p) ≡ false
+  pub on_give : (q : ℕ) → such q give ≡ false
+
+pub loads_or_hits_are : (b : Bool) → Such b (loads_or_hits b)
+loads_or_hits_are b = record {
+  on_clear = λ q. refl;
+  on_fault = λ q p. refl;
+  on_load = λ q p. refl;
+  on_hit = λ q p. refl;
+  on_drop = λ q p. refl;
+  on_give = λ q. refl;
+}
+
+module _ (b : Bool) (such : ℕ → Call → Bool) (k : Such b such) where
   abbrev m : Model
   m = ordered (line b)
-
-  abbrev such : ℕ → Call → Bool
-  such = loads_or_hits b
 
   abbrev InOrder : (ℕ → ℕ) → m.State → Type 0
   InOrder f s = (sound s.order ≡ true) × Rising f s.order
@@ -49,13 +65,13 @@ module _ (b : Bool) where
 
     accepts : (c : Call) → refusal m s c ≡ None → InOrder (more n f c true) (accepted m s c)
     accepts clear r = (refl, tt)
-    accepts (fault p) r = (i.0, same (fault p) s.order (λ q. refl) i.1)
+    accepts (fault p) r = (i.0, same (fault p) s.order (λ q. k.on_fault q p) i.1)
     accepts (load p) r =
         let w = load_facts m s p r in
-        (sound_push p s.order i.0 w.0 w.1, put (load p) p s.order (λ q. refl) w.1 i.1)
-    accepts (hit p) r = let w = held_facts m s p r in used b p w.1 w.0 (λ q. refl)
-    accepts (drop p) r = (sound_without p s.order i.0, same (drop p) _ (λ q. refl) (rising_without f p s.order i.0 i.1))
-    accepts give r = (sound_rest s.order i.0, same give _ (λ q. refl) (rising_rest f s.order i.1))
+        (sound_push p s.order i.0 w.0 w.1, put (load p) p s.order (λ q. k.on_load q p) w.1 i.1)
+    accepts (hit p) r = let w = held_facts m s p r in used b p w.1 w.0 (λ q. k.on_hit q p)
+    accepts (drop p) r = (sound_without p s.order i.0, same (drop p) _ (λ q. k.on_drop q p) (rising_without f p s.order i.0 i.1))
+    accepts give r = (sound_rest s.order i.0, same give _ k.on_give (rising_rest f s.order i.1))
 
     step : (c : Call) → InOrder (more n f c (passed (refusal m s c))) (after m s c)
     step c = by (refusal m s c) refl
