@@ -8,10 +8,12 @@ use Rattle.run.specs.declared.answer.Event.TheVariants.{Touch}
 use Rattle.run.specs.Answers as answer
 use Rattle.run.specs.Answers.{Told, told}
 use Rattle.run.specs.Run.{opened, answers}
+use Rattle.ordered.specs.Ordered.{Kept}
 use Rattle.fifo.specs.Fifo as fifo
 use Rattle.lru_policy.specs.Lru as lru
 use Rattle.clock.specs.Clock as clock
-use Rattle.front_queue.specs.Front.{fronted}
+use Rattle.clock.specs.Ring.{Ring}
+use Rattle.front_queue.specs.Front.{Queued, fronted}
 
 -- a policy by its layers
 pub data Stack : Type 0 where
@@ -21,7 +23,14 @@ pub data Stack : Type 0 where
   -- a front queue of so many pages over another
   behind_queue : ℕ → Stack → Stack
 
-abbrev pub model_of : Stack → Model
+-- what its standings are
+abbrev pub state_of : Stack → Type 0
+state_of fifo_alone = Kept (List ℕ)
+state_of lru_alone = Kept (List ℕ)
+state_of clock_alone = Kept Ring
+state_of (behind_queue k p) = Queued (state_of p)
+
+abbrev pub model_of : (p : Stack) → Model (state_of p)
 model_of fifo_alone = fifo.fifo
 model_of lru_alone = lru.lru
 model_of clock_alone = clock.clock
@@ -34,7 +43,7 @@ setting_of clock_alone = tt
 setting_of (behind_queue k p) = (k, setting_of p)
 
 -- the standing of the policy as it is made
-abbrev pub opening_of : (p : Stack) → (model_of p).State
+abbrev pub opening_of : (p : Stack) → state_of p
 opening_of p = (model_of p).opening (setting_of p)
 
 pub data Case : Type 0 where
@@ -44,12 +53,10 @@ pub data Case : Type 0 where
   touches : Stack → ℕ → List (ℕ × Told) → Case
 
 abbrev pub firsts : {A B : Type 0} → List (A × B) → List A
-firsts [] = []
-firsts (x ∷ xs) = x.0 ∷ firsts xs
+firsts xs = map (λ x. x.0) xs
 
 abbrev pub seconds : {A B : Type 0} → List (A × B) → List B
-seconds [] = []
-seconds (x ∷ xs) = x.1 ∷ seconds xs
+seconds xs = map (λ x. x.1) xs
 
 abbrev pub Comes : Case → Type 0
 Comes (calls p rows) = replies (model_of p) (opening_of p) (firsts rows) ≡ seconds rows

@@ -1,2 +1,2 @@
+pub mod ClockLaws
 pub mod Marks
-pub mod Turns

@@ -1,10 +1,10 @@
 // FIFO: of the pages held, the one that was loaded earliest goes first.
 #![tactic(auto)]
 
-ghost use Rattle.std.specs.Prelude.{◌≡◌, IfOk};
+ghost use Rattle.std.specs.Prelude.{IfOk};
 ghost use Rattle.policy.specs.Histories.{loads, GivesEarliest};
-ghost use Rattle.policy.specs.Laws.{Sound};
-ghost use Rattle.fifo.specs.Fifo.{fifo, fifo_of};
+ghost use Rattle.policy.specs.Laws.{AsMade};
+ghost use Rattle.fifo.specs.Fifo.{fifo};
 
 use line::line::Line;
 use line::renewal::ByLoad;
@@ -14,11 +14,10 @@ use std::alloc::{AllocError, Global};
 pub type Fifo = Ordered<Line<ByLoad>>;
 
 // A cleared FIFO. This takes its memory, and no later call takes any.
+// It is `line::make` under the policy's own name, with the law in its own words.
 pub fn make(heap: Global) -> Result<Fifo, AllocError>
-    ensures opening { IfOk result (λ f. fifo_of f ≡ fifo.opening tt) }
-    ensures sound { IfOk result (λ f. Sound fifo (fifo_of f)) }
+    ensures made { IfOk result (λ f. AsMade fifo tt f) }
     ensures earliest { GivesEarliest fifo loads }
 {
-    let line = Line::new(heap, ByLoad)?;
-    Ok(Ordered::new(line))
+    line::make(heap, ByLoad)
 }

@@ -8,7 +8,7 @@ use Rattle.pages.proofs.JoinLaws.{has_append, sound_left}
 use Rattle.pages.proofs.RisingLaws.{rising_same, rising_join, rising_without, rising_rest}
 use Rattle.policy.specs.declared.fault.PolicyFault.{PolicyFault}
 use Rattle.policy.specs.Model.{Model, Call, clear, fault, load, hit, drop, give, refusal, accepted, after, after_all, unless}
-use Rattle.policy.specs.Laws.{Sound, Gives, Lawful}
+use Rattle.policy.specs.Laws.{Sound, AsMade, Gives, Lawful}
 use Rattle.policy.specs.Histories.{passed}
 use Rattle.policy.proofs.Accepted.{load_facts}
 use Rattle.policy.proofs.Ages.{not_numbered, latest_by_low}
@@ -75,15 +75,15 @@ rest_within : (q : ℕ) (xs : List ℕ) → has q (rest xs) ≡ true → has q x
 rest_within q [] h = h
 rest_within q (x ∷ xs) h = grind (arith, tells)
 
-module _ (m : Model) (l : Lawful m) where
-  abbrev over : Model
+module _ {S : Type 0} (m : Model S) (l : Lawful m) where
+  abbrev over : Model (Queued S)
   over = fronted m
 
   -- the numbers after one call more
-  abbrev more : Queued m.State → ℕ → (ℕ → ℕ) → Call → Bool → ℕ → ℕ
+  abbrev more : Queued S → ℕ → (ℕ → ℕ) → Call → Bool → ℕ → ℕ
   more s n f c ok q = cond (joining m s q c && ok) (n + 1) (f q)
 
-  module _ (s : Queued m.State) (g : Sound over s) (n : ℕ) (f : ℕ → ℕ) (low : (q : ℕ) → f q ≤ n) (k : Newest f s.front (m.pages s.below)) where
+  module _ (s : Queued S) (g : Sound over s) (n : ℕ) (f : ℕ → ℕ) (low : (q : ℕ) → f q ≤ n) (k : Newest f s.front (m.pages s.below)) where
     abbrev bs : List ℕ
     bs = m.pages s.below
 
@@ -155,13 +155,13 @@ module _ (m : Model) (l : Lawful m) where
             let w = some_way m l s g c in
             let v = each_way m l s g w.1.1 r in
             let e = ap (λ o. unless o s (accepted over s c)) r in
-            let q : (accepted over s c).front ≡ w.0 = ap (λ (t : Queued m.State). t.front) (sym e) ∙ v.queue in
-            let b : (accepted over s c).below ≡ after_all m s.below w.1.0 = ap (λ (t : Queued m.State). t.below) (sym e) ∙ v.below in
+            let q : (accepted over s c).front ≡ w.0 = ap (λ (t : Queued S). t.front) (sym e) ∙ v.queue in
+            let b : (accepted over s c).below ≡ after_all m s.below w.1.0 = ap (λ (t : Queued S). t.below) (sym e) ∙ v.below in
             rw (q, b) (step w.1.1 v r)
         by (Some x) r = fewer f _ s.front s.front bs bs (λ q. not_numbered (joining m s q c) (n + 1) (f q)) k.order (λ q h. h) (λ q h. h) k
 
   -- over every list of calls
-  module _ (n : ℕ) (b : m.State) where
+  module _ (n : ℕ) (b : S) where
     reached_sound : (cs : List Call) → Sound over (after_calls m n b cs)
     reached_sound [] = accepted_sound over (front_lawful m l) (queued [] n b) clear tt
     reached_sound (c ∷ cs) = after_sound over (front_lawful m l) (after_calls m n b cs) c (reached_sound cs)
@@ -189,3 +189,7 @@ module _ (m : Model) (l : Lawful m) where
     none_passes = none_passes m l;
     none_answers = none_answers m l;
   }
+
+  -- a queue with no page over the cleared policy
+  pub front_made : (n : ℕ) (b : S) → AsMade over (n, m.setting b) (queued [] n (after m b clear))
+  front_made n b = record { cleared = refl; sound = accepted_sound over (front_lawful m l) (queued [] n b) clear tt }

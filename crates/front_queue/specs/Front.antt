@@ -1,10 +1,8 @@
 -- A queue in front of any policy: what the two mean together. Assumes nothing.
 use Rattle.std.specs.Prelude.{ℕ, ◌≤◌, cond, List, [], ◌∷◌, ◌++◌, length, Some, None, Option, ◌==◌, nat_lt}
 use Rattle.pages.specs.Lists.{has, without, first, rest}
-use Rattle.pages.specs.Queue.{pages_of}
 use Rattle.policy.specs.Model.{Model, fault, load, hit, drop, give, after}
 use Rattle.policy.specs.Laws.{Sound}
-use Rattle.front_queue.specs.declared.front_queue.FrontQueue.{FrontQueue}
 
 -- a standing: the pages in the queue, the oldest first, how many may stand there, and the policy below
 pub record Queued (S : Type 0) : Type 0 where
@@ -14,9 +12,6 @@ pub record Queued (S : Type 0) : Type 0 where
 
 abbrev pub queued : {S : Type 0} → List ℕ → ℕ → S → Queued S
 queued f n b = record { front = f; size = n; below = b }
-
-abbrev pub queued_of : {P S : Type 0} → (P → S) → FrontQueue P → Queued S
-queued_of standing v = queued (pages_of v.queue) v.size (standing v.below)
 
 -- the first page that there is
 abbrev pub or_else : Option ℕ → Option ℕ → Option ℕ
@@ -28,23 +23,22 @@ abbrev pub left : Option ℕ → List ℕ → List ℕ
 left None f = rest f
 left (Some q) f = f
 
-module _ (m : Model) where
+module _ {S : Type 0} (m : Model S) where
   -- the oldest page of a queue is loaded below
-  abbrev pub sunk : List ℕ → ℕ → m.State → Queued m.State
+  abbrev pub sunk : List ℕ → ℕ → S → Queued S
   sunk [] n b = queued [] n b
   sunk (x ∷ xs) n b = queued xs n (after m b (load x))
 
   -- p joins the end of the queue; above its size, its oldest page goes below
-  abbrev pub join : List ℕ → ℕ → m.State → ℕ → Queued m.State
+  abbrev pub join : List ℕ → ℕ → S → ℕ → Queued S
   join f n b p = cond (nat_lt n (length (f ++ p ∷ []))) (sunk (f ++ p ∷ []) n b) (queued (f ++ p ∷ []) n b)
 
   -- a hit of a page below: with a queue of size 0 it is a hit there, else the page is dropped there and joins the queue
-  abbrev pub raised : List ℕ → ℕ → m.State → ℕ → Queued m.State
+  abbrev pub raised : List ℕ → ℕ → S → ℕ → Queued S
   raised f n b p = cond (n == 0) (queued f n (after m b (hit p))) (join f n (after m b (drop p)) p)
 
-abbrev pub fronted : Model → Model
+abbrev pub fronted : {S : Type 0} → Model S → Model (Queued S)
 fronted m = record {
-  State = Queued m.State;
   Order = List ℕ × m.Order;
   Setting = ℕ × m.Setting;
   pages = λ s. s.front ++ m.pages s.below;

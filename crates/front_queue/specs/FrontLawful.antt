@@ -24,11 +24,11 @@ left_short : (o : Option ℕ) (f : List ℕ) (n : ℕ) → length f ≤ n → le
 left_short None f n h = rest_short f n h
 left_short (Some q) f n h = h
 
-module _ (m : Model) (l : Lawful m) where
-  abbrev over : Model
+module _ {S : Type 0} (m : Model S) (l : Lawful m) where
+  abbrev over : Model (Queued S)
   over = fronted m
 
-  whole : (s t : Queued m.State) → over.pages s ≡ over.pages t → over.count s ≡ over.count t → over.order s ≡ over.order t → over.setting s ≡ over.setting t → s ≡ t
+  whole : (s t : Queued S) → over.pages s ≡ over.pages t → over.count s ≡ over.count t → over.order s ≡ over.order t → over.setting s ≡ over.setting t → s ≡ t
   whole s t p c o x =
       let f : s.front ≡ t.front = ap (λ (z : List ℕ × m.Order). z.0) o in
       let n : s.size ≡ t.size = ap (λ (z : ℕ × m.Setting). z.0) x in
@@ -37,19 +37,19 @@ module _ (m : Model) (l : Lawful m) where
       ap (λ fs. queued fs s.size s.below) f ∙ ap (λ k. queued t.front k s.below) n ∙ ap (queued t.front t.size) b
 
   -- the oldest page of the queue can be loaded below
-  pub oldest_accepted : (b : m.State) (x : ℕ) (f : List ℕ) → sound ((x ∷ f) ++ m.pages b) ≡ true → length ((x ∷ f) ++ m.pages b) ≤ 1024 → refusal m b (load x) ≡ None
+  pub oldest_accepted : (b : S) (x : ℕ) (f : List ℕ) → sound ((x ∷ f) ++ m.pages b) ≡ true → length ((x ∷ f) ++ m.pages b) ≤ 1024 → refusal m b (load x) ≡ None
   oldest_accepted b x f s r =
       let t : has x (x ∷ f) ≡ true = grind (arith, nat_tests) in
       load_accepts m b x (has_small x (x ∷ f) (sound_left (x ∷ f) (m.pages b) s) t) (apart x (x ∷ f) (m.pages b) s t) (omega (arith, length-append f (m.pages b)))
 
   -- p joins the queue f over b, which leaves t
-  record Joined (p : ℕ) (f : List ℕ) (n : ℕ) (b : m.State) (t : Queued m.State) : Type 0 where
+  record Joined (p : ℕ) (f : List ℕ) (n : ℕ) (b : S) (t : Queued S) : Type 0 where
     adds : Adds p (f ++ m.pages b) (over.pages t)
     counted : over.count t ≡ m.count b
     settled : over.setting t ≡ (n, m.setting b)
     fine : over.Fine t
 
-  module _ (b : m.State) (g : Sound m b) (p : ℕ) (k : p < 4096) (n : ℕ) where
+  module _ (b : S) (g : Sound m b) (p : ℕ) (k : p < 4096) (n : ℕ) where
     sinks : (f : List ℕ) → length f ≤ n → sound (f ++ m.pages b) ≡ true → has p (f ++ m.pages b) ≡ false → length (f ++ m.pages b) < 1024 → Joined p f n b (sunk m (f ++ p ∷ []) n b)
     sinks [] z s h r =
         let e = after_effect m l b (load p) g (load_accepts m b p k h r) in
@@ -77,13 +77,13 @@ module _ (m : Model) (l : Lawful m) where
     ]
 
   -- what an accepted call does to a standing
-  record Fares (s : Queued m.State) (c : Call) (t : Queued m.State) : Type 0 where
+  record Fares (s : Queued S) (c : Call) (t : Queued S) : Type 0 where
     effect : Effect over s c t
     settled : over.setting t ≡ over.setting s
     fine : over.Fine t
 
   -- a call that goes below and leaves the queue as it was, or a part of it
-  below_only : (s : Queued m.State) (c d : Call) (f : List ℕ) → Sound over s → length f ≤ s.size → Effect over s c (queued f s.size (after m s.below d)) → Fares s c (queued f s.size (after m s.below d))
+  below_only : (s : Queued S) (c d : Call) (f : List ℕ) → Sound over s → length f ≤ s.size → Effect over s c (queued f s.size (after m s.below d)) → Fares s c (queued f s.size (after m s.below d))
   below_only s c d f g z e = record {
     effect = e;
     settled = ap (λ x. (s.size, x)) (after_settled m l s.below d g.fine.0);
@@ -95,7 +95,7 @@ module _ (m : Model) (l : Lawful m) where
   gives None (x ∷ f) bs cs s g = rw (g.1, ← g.0) (takes_front (x ∷ f) bs s x f (takes_rest x (x ∷ f) (sound_left (x ∷ f) bs s) refl))
   gives (Some q) f bs cs s g = takes_back f bs s q cs g
 
-  hits : (s : Queued m.State) (p : ℕ) → Sound over s → refusal over s (hit p) ≡ None → has p s.front ≡ false → Fares s (hit p) (raised m s.front s.size s.below p)
+  hits : (s : Queued S) (p : ℕ) → Sound over s → refusal over s (hit p) ≡ None → has p s.front ≡ false → Fares s (hit p) (raised m s.front s.size s.below p)
   hits s p g r e =
       let w = held_facts over s p r in
       let fs = s.front in let b = s.below in let bs = m.pages b in
@@ -116,7 +116,7 @@ module _ (m : Model) (l : Lawful m) where
             } in a)
       ]
 
-  fares : (s : Queued m.State) (c : Call) → Allowed over s c → Fares s c (accepted over s c)
+  fares : (s : Queued S) (c : Call) → Allowed over s c → Fares s c (accepted over s c)
   fares s clear a = record {
     effect = l.effects s.below clear tt;
     settled = ap (λ x. (s.size, x)) (l.settled s.below clear tt);

@@ -10,7 +10,7 @@ use Rattle.policy.specs.Model.{Model, Call, clear, fault, load, hit, drop, give,
 use Rattle.policy.specs.Histories.{loads_or_hits, passed, reached, latest, GivesEarliest}
 use Rattle.policy.proofs.Accepted.{load_facts, held_facts}
 use Rattle.policy.proofs.Ages.{latest_low, not_numbered}
-use Rattle.ordered.specs.Ordered.{ordered}
+use Rattle.ordered.specs.Ordered.{Kept, ordered}
 use Rattle.line.specs.Line.{line}
 
 -- such calls are the loads, and where hits renew, the hits too
@@ -33,17 +33,17 @@ loads_or_hits_are b = record {
 }
 
 module _ (b : Bool) (such : ℕ → Call → Bool) (k : Such b such) where
-  abbrev m : Model
+  abbrev m : Model (Kept (List ℕ))
   m = ordered (line b)
 
-  abbrev InOrder : (ℕ → ℕ) → m.State → Type 0
+  abbrev InOrder : (ℕ → ℕ) → Kept (List ℕ) → Type 0
   InOrder f s = (sound s.order ≡ true) × Rising f s.order
 
   -- the numbers after one call more
   abbrev more : ℕ → (ℕ → ℕ) → Call → Bool → ℕ → ℕ
   more n f c ok q = cond (such q c && ok) (n + 1) (f q)
 
-  module _ (s : m.State) (n : ℕ) (f : ℕ → ℕ) (low : (q : ℕ) → f q ≤ n) (i : InOrder f s) where
+  module _ (s : Kept (List ℕ)) (n : ℕ) (f : ℕ → ℕ) (low : (q : ℕ) → f q ≤ n) (i : InOrder f s) where
     same : (c : Call) (xs : List ℕ) → ((q : ℕ) → such q c ≡ false) → Rising f xs → Rising (more n f c true) xs
     same c xs e r = rising_same f (more n f c true) xs (λ q h. rw (e q) refl) r
 
@@ -90,3 +90,6 @@ module _ (b : Bool) (such : ℕ → Call → Bool) (k : Such b such) where
   pub gives_earliest : GivesEarliest m such
   gives_earliest x cs p e =
       (first_has (reached m tt cs).order p e, λ q h n. rising_first (age cs) (reached m tt cs).order p q (in_order cs).1 e h n)
+
+pub line_earliest : (b : Bool) → GivesEarliest (ordered (line b)) (loads_or_hits b)
+line_earliest b = gives_earliest b (loads_or_hits b) (loads_or_hits_are b)

@@ -1,4 +1,5 @@
-// What puts a page at the end of a line.
+// What puts a page at the end of a line. It is told by types: `Line<ByUse>` says what a constant's
+// `Line<true>` would not.
 ghost use Rattle.std.specs.Prelude.{◌≡◌, Bool, true, false};
 
 pub trait Renewal {

@@ -1,3 +1,3 @@
-pub mod Reading
 pub mod Printing
+pub mod Reading
 pub mod ReadBack

@@ -1,9 +1,8 @@
 -- The numbers of a text, parted by white space. Assumes nothing.
-use Rattle.std.specs.Prelude.{◌≡◌, ℕ, ◌+◌, ◌-◌, ◌*◌, ◌^◌, Bool, true, cond, ◌&&◌, ◌||◌, List, [], ◌∷◌, ◌++◌, length, drop, Some, None, Ok, Err, vec_items, decimal, Option, Result, Vec, ◌==◌, nat_le, nat_lt}
+use Rattle.std.specs.Prelude.{◌≡◌, ℕ, ◌+◌, ◌-◌, ◌*◌, ◌^◌, Bool, true, cond, ◌&&◌, ◌||◌, List, [], ◌∷◌, ◌++◌, length, drop, Some, None, Ok, Err, vec_items, decimal, option_to_list, unwrap_or, Option, Result, Vec, ◌==◌, nat_le, nat_lt}
 use Rattle.std.specs.declared.alloc.Global.{Global}
-use Rattle.listing.specs.declared.read.BadByte.{BadByte}
-use Rattle.listing.specs.declared.read.Progress.{Progress}
-use Rattle.listing.specs.declared.read.Progress.TheVariants.{Grown, Parted, Bad}
+use Rattle.listing.specs.declared.fault.TextFault.{TextFault}
+use Rattle.listing.specs.declared.fault.TextFault.TheVariants.{Malformed, OutOfMemory}
 
 -- a space, a line end, a carriage return or a tab
 abbrev pub is_space : ℕ → Bool
@@ -12,28 +11,19 @@ is_space b = b == 32 || (b == 10 || (b == 13 || b == 9))
 abbrev pub is_digit : ℕ → Bool
 is_digit b = nat_le 48 b && nat_le b 57
 
--- the number so far
-abbrev pub value_of : Option ℕ → ℕ
-value_of None = 0
-value_of (Some n) = n
-
-abbrev pub word_of : Option ℕ → List ℕ
-word_of None = []
-word_of (Some n) = n ∷ []
-
--- white space ends a word; a digit makes its number ten times as great and adds itself, while it fits 32 bits
-abbrev pub after_byte : Option ℕ → ℕ → Progress
-after_byte w b = cond (is_space b) Parted (cond (is_digit b && nat_lt (value_of w * 10 + (b - 48)) (2 ^ 32)) (Grown (value_of w * 10 + (b - 48))) Bad)
+-- a digit makes the number so far ten times as great and adds itself, while it fits 32 bits
+abbrev pub grown : Option ℕ → ℕ → Option ℕ
+grown w b = cond (is_digit b && nat_lt (unwrap_or w 0 * 10 + (b - 48)) (2 ^ 32)) (Some (unwrap_or w 0 * 10 + (b - 48))) None
 
 -- words before those of the rest of a text
 abbrev pub before : List ℕ → Result (List ℕ) ℕ → Result (List ℕ) ℕ
 before xs (Ok ys) = Ok (xs ++ ys)
 before xs (Err k) = Err k
 
--- the numbers from place k on, after the word so far, or the place of the first byte that is bad
+-- the numbers from place k on, after the word so far, or the place of the first byte that is bad; white space ends a word
 abbrev pub numbers_from : ℕ → Option ℕ → List ℕ → Result (List ℕ) ℕ
-numbers_from k w [] = Ok (word_of w)
-numbers_from k w (b ∷ bs) = elim (after_byte w b) [ Grown n ↦ numbers_from (k + 1) (Some n) bs | Parted ↦ before (word_of w) (numbers_from (k + 1) None bs) | Bad ↦ Err k ]
+numbers_from k w [] = Ok (option_to_list w)
+numbers_from k w (b ∷ bs) = cond (is_space b) (before (option_to_list w) (numbers_from (k + 1) None bs)) (elim (grown w b) [ Some n ↦ numbers_from (k + 1) (Some n) bs | None ↦ Err k ])
 
 abbrev pub numbers_in : List ℕ → Result (List ℕ) ℕ
 numbers_in bs = numbers_from 0 None bs
@@ -42,10 +32,12 @@ numbers_in bs = numbers_from 0 None bs
 abbrev pub numbers_behind : ℕ → List ℕ → Result (List ℕ) ℕ
 numbers_behind k bs = numbers_from k None (drop k bs)
 
--- what a reader found
-abbrev pub found_of : Result (Vec ℕ Global) BadByte → Result (List ℕ) ℕ
-found_of (Ok v) = Ok (vec_items v)
-found_of (Err e) = Err e.at
+-- a reader found r, unless memory ran out
+abbrev pub Finds : Result (Vec ℕ Global) TextFault → Result (List ℕ) ℕ → Type 0
+Finds (Ok v) r = r ≡ Ok (vec_items v)
+Finds (Err (Malformed b)) r = r ≡ Err b.at
+Finds (Err (OutOfMemory e)) r = Unit {0}
+Finds (Err e) r = ⊥
 
 -- numbers spelled in decimal, each with a space behind it
 abbrev pub spelled : List ℕ → List ℕ

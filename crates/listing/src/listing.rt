@@ -1,9 +1,11 @@
 // From the text of a trace to the text of its answers.
-ghost use Rattle.std.specs.Prelude.{◌≡◌, ◌++◌, map, IfSome, IfOk, Ok, string_bytes, OnOk};
+ghost use Rattle.std.specs.Prelude.{◌≡◌, map, IfSome, IfOk, Some, string_bytes};
 ghost use Rattle.run.specs.declared.answer.Event.TheVariants.{Touch};
 ghost use Rattle.settings.specs.Checks.{seen, checked};
-ghost use Rattle.listing.specs.Listing.{numbers_with, printed, played, played_over, by_settings, by_numbers, listing_of};
+ghost use Rattle.listing.specs.Faults.{told_of};
+ghost use Rattle.listing.specs.Listing.{numbers_with, printed, played_over, listing_of};
 
+use crate::fault::TextFault;
 use crate::print::{End, Line};
 use crate::read::numbers;
 use ordered::order::PageOrder;
@@ -14,19 +16,19 @@ use settings::fault::RunFault;
 use settings::numbers::Numbers;
 use settings::settings::Settings;
 use std::alloc::{AllocError, Global};
-use std::fmt::Display;
 
-// Settings of a run of so many frames. A run over FIFO uses no other number, so the others are any that are accepted.
-fn framed(frames: u32) -> Result<Settings, RunFault>
-    ensures { seen result ≡ checked (numbers_with frames) }
+// Settings of a run of so many frames, with a front queue of so many pages. A listing's run uses no
+// other number, so the others are any that are accepted.
+pub fn settings_with(frames: u32, front: u32) -> Result<Settings, RunFault>
+    ensures { seen result ≡ checked (numbers_with frames front) }
 {
-    Settings::new(Numbers {
+    Settings::try_from(Numbers {
         frames,
         long: 20,
         behind: 20,
         nth: 1,
         tracked: 200,
-        front: 0,
+        front,
     })
 }
 
@@ -34,98 +36,74 @@ fn framed(frames: u32) -> Result<Settings, RunFault>
 fn touches(heap: Global, pages: &[u32]) -> Result<Vec<Event>, AllocError>
     ensures { IfOk result (λ v. v.items ≡ map Touch pages.now) }
 {
-    let mut events = Vec::with_capacity(heap, pages.len())?;
-    for page in pages.iter() {
-        events.push_reserved(Event::Touch(*page));
-    }
-    Ok(events)
+    pages.iter().copied().map(Event::Touch).collect(heap)
 }
 
-// Puts what is printed behind the rest.
-fn put<L: Display + Drop>(out: &mut String, line: L) -> Result<(), AllocError>
-    ensures { OnOk result (IfSome (L.output line) (λ bs. string_bytes out.new ≡ string_bytes out.old ++ bs)) }
-{
-    match out.write(line) {
-        Ok(()) => Ok(()),
-        Err(_) => Err(AllocError),
-    }
-}
-
-// A line for each answer.
+// A line for each page with its answer.
 fn lines(heap: Global, pages: &[u32], answers: &[Answer]) -> Result<String, AllocError>
     ensures { IfOk result (λ s. string_bytes s ≡ printed pages.now answers.now) }
 {
     let mut out = String::new(heap);
-    let count = pages.len().min(answers.len());
-    for at in 0..count {
+    for (page, answer) in pages.iter().zip(answers) {
         let line = Line {
-            page: pages[at],
-            answer: answers[at],
+            page: *page,
+            answer: *answer,
         };
-        put(&mut out, line)?;
+        write!(out, "{line}")?;
     }
     Ok(out)
 }
 
-// Plays the pages over a policy: a line for each touch, and then the totals.
+// Plays the pages over a policy: a line for each touch, and then the totals. Settings and pages stay
+// two parameters: a struct of both would be built for this one call, and its clause would be longer.
 pub fn play_over<P: Policy + Drop>(
     heap: Global,
     settings: Settings,
     policy: P,
     pages: &[u32],
 ) -> Result<String, AllocError>
-    ensures { IfOk result (λ s. string_bytes s ≡ played_over P.model settings.frames (P.standing policy) pages.now) }
+    ensures { IfOk result (λ s. string_bytes s ≡ played_over P.model settings.frames policy pages.now) }
 {
     let events = touches(heap, pages)?;
-    let Played { answers, run } = play(heap, settings, policy, events.as_slice())?;
-    let mut out = lines(heap, pages, answers.as_slice())?;
-    let figures = run.close().figures();
-    put(&mut out, End { figures })?;
+    let Played { answers, run } = play(heap, settings, policy, &events)?;
+    let mut out = lines(heap, pages, &answers)?;
+    let end = End {
+        figures: run.close().figures(),
+    };
+    write!(out, "{end}")?;
     Ok(out)
 }
 
-// Plays the pages over FIFO.
-fn play_pages(heap: Global, settings: Settings, pages: &[u32]) -> Result<String, AllocError>
-    ensures { IfOk result (λ s. string_bytes s ≡ played settings.frames pages.now) }
+// What is told of a text: the lines that it was played to, or the one of its fault. Where memory ran
+// out, nothing is told: that fault alone is handed on, so the cases are told apart by a match.
+pub fn told(heap: Global, played: Result<String, TextFault>) -> Result<String, AllocError>
+    ensures { IfOk result (λ s. told_of played ≡ Some (string_bytes s)) }
 {
-    let policy = fifo::make(heap)?;
-    play_over(heap, settings, policy, pages)
-}
-
-// The lines that the settings' numbers ask for, where they are settings.
-fn play_framed(heap: Global, frames: u32, pages: &[u32]) -> Result<String, AllocError>
-    ensures { IfOk result (λ s. string_bytes s ≡ by_settings (checked (numbers_with frames)) frames pages.now) }
-{
-    match framed(frames) {
-        Ok(settings) => play_pages(heap, settings, pages),
-        Err(fault) => {
-            let number = fault.number();
-            format!(in heap; "no {number}\n")
-        }
+    match played {
+        Ok(lines) => Ok(lines),
+        Err(TextFault::OutOfMemory(e)) => Err(e),
+        Err(fault) => format!(in heap; "{fault}\n"),
     }
 }
 
-// The first number is the number of frames, and the others are pages.
-fn play_numbers(heap: Global, numbers: &[u32]) -> Result<String, AllocError>
-    ensures { IfOk result (λ s. string_bytes s ≡ by_numbers (Ok numbers.now)) }
+// Plays a text over FIFO. The first number is the number of frames, and the others are pages.
+fn played(heap: Global, text: &[u8]) -> Result<String, TextFault>
+    ensures { IfSome (told_of result) (λ bs. bs ≡ listing_of text.now) }
 {
-    let [frames, pages @ ..] = numbers else {
-        return format!(in heap; "no frames: the first number says how many there are\n");
+    let numbers = numbers(heap, text)?;
+    let [frames, pages @ ..] = numbers.as_slice() else {
+        return Err(TextFault::NoFrames);
     };
-    play_framed(heap, *frames, pages)
+    let settings = settings_with(*frames, 0)?;
+    let policy = fifo::make(heap)?;
+    Ok(play_over(heap, settings, policy, pages)?)
 }
 
-// The lines that a text asks for.
+// The lines that a text asks for. This is the one line that both kinds of text have alike.
 pub fn listing(heap: Global, text: &[u8]) -> Result<String, AllocError>
     ensures { IfOk result (λ s. string_bytes s ≡ listing_of text.now) }
 {
-    match numbers(heap, text)? {
-        Ok(found) => play_numbers(heap, found.as_slice()),
-        Err(bad) => {
-            let at = bad.at;
-            format!(in heap; "malformed input: byte {at} is part of no number below 4294967296\n")
-        }
-    }
+    told(heap, played(heap, text))
 }
 
 #[cfg(test)]
@@ -155,6 +133,16 @@ mod tests {
             "malformed input: byte 11 is part of no number below 4294967296\n",
         ),
     ];
+
+    #[test]
+    fn tells_a_fault_by_its_line(rt: HostRuntime) -> Result<(), Fail> {
+        let line = told(rt.alloc(), Err(TextFault::TooFewNumbers))?;
+        assert_eq!(rt;
+            line.as_str(),
+            "too few numbers: the frames and the size of the front queue come first\n"
+        );
+        Ok(())
+    }
 
     #[test]
     fn prints_what_each_text_asks_for(rt: HostRuntime) -> Result<(), Fail> {

@@ -1,86 +1,49 @@
 // A text of numbers parted by white space.
-ghost use Rattle.std.specs.Prelude.{◌≡◌, ◌++◌, IfOk, OnOk};
-ghost use Rattle.listing.specs.Numbers.{ReadsBack, ReadsBackBehind, ReadsPlain, ReadsPlainBehind, after_byte, found_of, is_space, numbers_behind, numbers_in, word_of};
+ghost use Rattle.std.specs.Prelude.{◌≡◌};
+ghost use Rattle.listing.specs.Numbers.{Finds, ReadsBack, ReadsBackBehind, ReadsPlain, ReadsPlainBehind, grown, is_space, numbers_behind, numbers_in};
 
-use std::alloc::{AllocError, Global};
-
-// The first byte, by its place from 0, that is no white space and no digit of a number below 2^32.
-#[derive(Clone, Copy, PartialEq, Eq, Debug)]
-pub struct BadByte {
-    pub at: usize,
-}
-
-// What a byte makes of the number before it.
-#[derive(Clone, Copy, PartialEq, Eq, Debug)]
-pub enum Progress {
-    Grown(u32),
-    Parted,
-    Bad,
-}
+use crate::fault::{BadByte, TextFault};
+use std::alloc::Global;
 
 // A space, a line end, a carriage return or a tab.
 pub fn is_space(byte: u8) -> bool
     ensures { result ≡ is_space byte }
 {
-    byte == b' ' || byte == b'\n' || byte == b'\r' || byte == b'\t'
+    matches!(byte, b' ' | b'\n' | b'\r' | b'\t')
 }
 
-fn step(word: Option<u32>, byte: u8) -> Progress
-    ensures { result ≡ after_byte word byte }
+// What a digit makes of the number before it, where that fits 32 bits.
+fn grown(word: Option<u32>, byte: u8) -> Option<u32>
+    ensures { result ≡ grown word byte }
 {
-    if is_space(byte) {
-        return Progress::Parted;
-    }
-    if byte < b'0' || byte > b'9' {
-        return Progress::Bad;
-    }
-    let grown = u64::from(word.unwrap_or(0)) * 10 + u64::from(byte - b'0');
-    if grown > u64::from(u32::MAX) {
-        return Progress::Bad;
-    }
-    Progress::Grown(grown as u32)
-}
-
-// Puts the number of a word, where there is one, behind the others.
-fn part(found: &mut Vec<u32>, word: Option<u32>) -> Result<(), AllocError>
-    ensures { OnOk result (found.new.items ≡ found.old.items ++ word_of word) }
-{
-    let Some(n) = word else {
-        return Ok(());
-    };
-    found.push(n)?;
-    Ok(())
+    let digit = char::from(byte).to_digit(10)?;
+    word.unwrap_or(0).checked_mul(10)?.checked_add(digit)
 }
 
 // The numbers of a text from a place on, in order, or the first bad byte from there.
-pub fn numbers_behind(
-    heap: Global,
-    text: &[u8],
-    start: usize,
-) -> Result<Result<Vec<u32>, BadByte>, AllocError>
-    ensures found { IfOk result (λ x. found_of x ≡ numbers_behind start text.now) }
+#[tactic(auto, using(crate::proofs::ReadBack::reads_back_behind, crate::proofs::ReadBack::reads_plain_behind))]
+pub fn numbers_behind(heap: Global, text: &[u8], start: usize) -> Result<Vec<u32>, TextFault>
+    ensures found { Finds result (numbers_behind start text.now) }
     ensures back { ReadsBackBehind }
     ensures plain { ReadsPlainBehind }
 {
     let mut found = Vec::new(heap);
     let mut word = None;
-    for at in start..text.len() {
-        match step(word, text[at]) {
-            Progress::Grown(n) => word = Some(n),
-            Progress::Parted => {
-                part(&mut found, word)?;
-                word = None;
-            }
-            Progress::Bad => return Ok(Err(BadByte { at })),
+    for (at, byte) in text.iter().enumerate().skip(start) {
+        if is_space(*byte) {
+            found.extend(word.take())?;
+        } else {
+            word = Some(grown(word, *byte).ok_or(BadByte { at })?);
         }
     }
-    part(&mut found, word)?;
-    Ok(Ok(found))
+    found.extend(word)?;
+    Ok(found)
 }
 
-// The numbers of a text, in order, or its first bad byte.
-pub fn numbers(heap: Global, text: &[u8]) -> Result<Result<Vec<u32>, BadByte>, AllocError>
-    ensures found { IfOk result (λ x. found_of x ≡ numbers_in text.now) }
+// The numbers of a whole text, in order, or its first bad byte: one line over `numbers_behind`.
+#[tactic(auto, using(crate::proofs::ReadBack::reads_back, crate::proofs::ReadBack::reads_plain))]
+pub fn numbers(heap: Global, text: &[u8]) -> Result<Vec<u32>, TextFault>
+    ensures found { Finds result (numbers_in text.now) }
     ensures back { ReadsBack }
     ensures plain { ReadsPlain }
 {

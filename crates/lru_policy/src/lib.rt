@@ -1,10 +1,9 @@
 // LRU: of the pages held, the one that was loaded or hit longest ago goes first.
 #![tactic(auto)]
 
-ghost use Rattle.std.specs.Prelude.{◌≡◌, IfOk};
+ghost use Rattle.std.specs.Prelude.{IfOk};
 ghost use Rattle.policy.specs.Histories.{uses, GivesEarliest};
-ghost use Rattle.policy.specs.Laws.{Sound};
-ghost use Rattle.line.specs.Line.{lined};
+ghost use Rattle.policy.specs.Laws.{AsMade};
 ghost use Rattle.lru_policy.specs.Lru.{lru};
 
 use line::line::Line;
@@ -15,9 +14,9 @@ use std::alloc::{AllocError, Global};
 pub type Lru = Ordered<Line<ByUse>>;
 
 // A cleared LRU. This takes its memory, and no later call takes any.
+// It is `line::make` under the policy's own name, with the law in its own words.
 pub fn make(heap: Global) -> Result<Lru, AllocError>
-    ensures opening { IfOk result (λ f. lined f ≡ lru.opening tt) }
-    ensures sound { IfOk result (λ f. Sound lru (lined f)) }
+    ensures made { IfOk result (λ f. AsMade lru tt f) }
     ensures earliest { GivesEarliest lru uses }
 {
     line::make(heap, ByUse)

@@ -1,12 +1,18 @@
 -- The first word of a text, and the policy that it names. Assumes nothing.
-use Rattle.std.proofs.Common.{◌≡◌, ℕ, ◌+◌, ◌-◌, ◌<◌, ◌≤◌, true, false, eqb, List, [], ◌∷◌, length, get_or, take, drop, Some, None, Option, sym, refl, ap, ◌∙◌, inl, inr, arith}
-use Rattle.std.proofs.lemmas.List.{drop_more, drop_all}
+use Rattle.std.proofs.Common.{◌≡◌, ℕ, ◌≤◌, cond, nat_lt, not, true, false, eqb, List, [], ◌∷◌, take, Some, None, Option, sym, refl, ◌∙◌, length, unwrap_or, inl, inr, arith}
 use Rattle.std.proofs.lemmas.Bool.{cases_Bool, eqb-true, and_parts, true≢false}
 use Rattle.named_listing.specs.declared.name.PolicyName.{PolicyName}
 use Rattle.named_listing.specs.declared.name.PolicyName.TheVariants.{Fifo, Lru, Clock}
-use Rattle.listing.specs.Numbers.{is_space, numbers_behind}
-use Rattle.named_listing.specs.Names.{name_of, Named, same, named, word_end}
-use Rattle.named_listing.specs.Listing.{by_name, listing_of}
+use Rattle.std.proofs.lemmas.Bool.Decides.{nat_tests}
+use Rattle.std.proofs.lemmas.List.Recursion.{is_position_or_len}
+use Rattle.std.proofs.lemmas.List.Sums.{prefix_len-le-length}
+use Rattle.std.specs.Prelude.{position}
+use Rattle.std.specs.List.{position_or_len}
+use Rattle.listing.specs.declared.fault.TextFault.TheVariants.{NoPolicy}
+use Rattle.listing.specs.Faults.{fault_line}
+use Rattle.listing.specs.Numbers.{is_space}
+use Rattle.named_listing.specs.Listing.{listing_of}
+use Rattle.named_listing.specs.Names.{name_of, same, named, word_end}
 
 same_true : (xs ys : List ℕ) → same xs ys ≡ true → xs ≡ ys
 same_true [] [] e = refl
@@ -20,25 +26,16 @@ same_true (x ∷ xs) (y ∷ ys) e =
 other : (w : List ℕ) (p : PolicyName) → (w ≡ name_of p → ⊥) → same w (name_of p) ≡ false
 other w p n = elim (cases_Bool (same w (name_of p))) [ inl e ↦ absurd (n (same_true w (name_of p) e)) | inr e ↦ e ]
 
-pub named_is : (w : List ℕ) (r : Option PolicyName) → Named w r → r ≡ named w
-named_is w None n = let a = other w Fifo (n Fifo) in let b = other w Lru (n Lru) in let c = other w Clock (n Clock) in rw (a, b, c) refl
-named_is w (Some Fifo) e = ap named (sym e)
-named_is w (Some Lru) e = ap named (sym e)
-named_is w (Some Clock) e = ap named (sym e)
+names_none : (w : List ℕ) → ((p : PolicyName) → w ≡ name_of p → ⊥) → named w ≡ None
+names_none w n = let a = other w Fifo (n Fifo) in let b = other w Lru (n Lru) in let c = other w Clock (n Clock) in rw (a, b, c) refl
 
--- r is what the first word names, which ends at n
-pub by_first_word : (bs : List ℕ) (n : ℕ) (r : Option PolicyName) → n ≡ word_end bs → Named (take (n - 0) bs) r → listing_of bs ≡ by_name r (numbers_behind n bs)
-by_first_word bs n r e h =
-    let i : word_end bs ≡ n - 0 = omega arith in
-    ap (λ k. by_name (named (take k bs)) (numbers_behind (word_end bs) bs)) i ∙ ap (λ k. by_name (named (take (n - 0) bs)) (numbers_behind k bs)) (sym e) ∙ ap (λ o. by_name o (numbers_behind n bs)) (sym (named_is (take (n - 0) bs) r h))
+-- the first word, which ends at n, names no policy
+pub no_policy : (bs w : List ℕ) (n : ℕ) → n ≡ word_end bs → w ≡ take n bs → ((p : PolicyName) → w ≡ name_of p → ⊥) → listing_of bs ≡ fault_line NoPolicy
+no_policy bs w n e i h = rw (← e, ← i, names_none w h) refl
 
-module _ (bs : List ℕ) (k : ℕ) where
-  pub word_here : k < length bs → is_space (get_or bs k 0) ≡ true → word_end (drop k bs) ≡ 0
-  word_here h e = rw (drop_more bs k 0 h, e) refl
+-- a place found, and the end of the text where there is none
+found_or_end : (n l : ℕ) → n ≤ l → unwrap_or (cond (nat_lt n l) (Some n) None) l ≡ n
+found_or_end n l h = grind (arith, nat_tests)
 
-  pub word_on : k < length bs → is_space (get_or bs k 0) ≡ false → k + 1 + word_end (drop (k + 1) bs) ≡ k + word_end (drop k bs)
-  word_on h e =
-      let a : word_end (drop k bs) ≡ 1 + word_end (drop (k + 1) bs) = rw (drop_more bs k 0 h, e) refl in omega arith
-
-  pub word_out : length bs ≤ k → word_end (drop k bs) ≡ 0
-  word_out h = rw (drop_all k bs h) refl
+pub word_ends : (bs : List ℕ) (r : Option ℕ) → r ≡ position is_space bs → unwrap_or r (length bs) ≡ word_end bs
+word_ends bs r e = rw e (found_or_end (position_or_len is_space bs) (length bs) (prefix_len-le-length (λ x. not (is_space x)) bs)) ∙ sym (is_position_or_len word_end is_space refl (λ x xs. refl) bs)

@@ -1,5 +1,7 @@
 -- The policies by name, and the first word of a text. Assumes nothing.
-use Rattle.std.specs.Prelude.{◌≡◌, ℕ, ◌+◌, Bool, true, false, cond, ◌&&◌, List, [], ◌∷◌, Some, None, codes, Option, ◌==◌, ◌≢◌}
+use Rattle.std.specs.Prelude.{◌≡◌, ℕ, ◌+◌, Bool, true, false, cond, ◌&&◌, List, [], ◌∷◌, Some, None, Ok, Err, codes, Option, Result, ◌==◌, ◌≢◌}
+use Rattle.listing.specs.declared.fault.TextFault.{TextFault}
+use Rattle.listing.specs.declared.fault.TextFault.TheVariants.{NoPolicy}
 use Rattle.named_listing.specs.declared.name.PolicyName.{PolicyName}
 use Rattle.named_listing.specs.declared.name.PolicyName.TheVariants.{Fifo, Lru, Clock}
 use Rattle.listing.specs.Numbers.{is_space}
@@ -10,10 +12,10 @@ name_of Fifo = codes "fifo"
 name_of Lru = codes "lru"
 name_of Clock = codes "clock"
 
--- r is the policy that the word w names, and none where w is the name of none
-abbrev pub Named : List ℕ → Option PolicyName → Type 0
-Named w None = (p : PolicyName) → w ≢ name_of p
-Named w (Some p) = w ≡ name_of p
+-- r is the policy that the word w names, and the fault that there is none where w is the name of none
+abbrev pub Named : List ℕ → Result PolicyName TextFault → Type 0
+Named w (Ok p) = w ≡ name_of p
+Named w (Err e) = (e ≡ NoPolicy) × ((p : PolicyName) → w ≢ name_of p)
 
 abbrev pub same : List ℕ → List ℕ → Bool
 same [] [] = true

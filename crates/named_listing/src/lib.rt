@@ -1,4 +1,5 @@
-// Traces as text that name their policy: the name and the numbers are read, played and printed touch by touch.
+// Traces as text that name their policy: the name and the numbers are read, played and printed touch
+// by touch.
 #![tactic(auto)]
 
 pub mod name;

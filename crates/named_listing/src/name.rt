@@ -2,6 +2,7 @@
 ghost use Rattle.std.specs.Prelude.{◌≡◌, ◌≤◌, length};
 ghost use Rattle.named_listing.specs.Names.{Named, word_end};
 
+use listing::fault::TextFault;
 use listing::read::is_space;
 
 #[derive(Clone, Copy, PartialEq, Eq, Debug)]
@@ -11,24 +12,29 @@ pub enum PolicyName {
     Clock,
 }
 
-// The policy that a word names.
-pub(crate) fn policy_named(word: &[u8]) -> Option<PolicyName>
-    ensures { Named word.now result }
-{
-    match word {
-        [b'f', rest @ ..] => match rest {
-            b"ifo" => Some(PolicyName::Fifo),
-            _ => None,
-        },
-        [b'l', rest @ ..] => match rest {
-            b"ru" => Some(PolicyName::Lru),
-            _ => None,
-        },
-        [b'c', rest @ ..] => match rest {
-            b"lock" => Some(PolicyName::Clock),
-            _ => None,
-        },
-        _ => None,
+impl TryFrom<&[u8]> for PolicyName {
+    type Error = TextFault;
+
+    ghost try_from_gives = { λ word r. Named word.now r };
+
+    // The policy that a word names. Keywords are read by slice patterns in this project, the first byte
+    // named and the rest matched.
+    fn try_from(word: &[u8]) -> Result<PolicyName, TextFault> {
+        match word {
+            [b'f', rest @ ..] => match rest {
+                b"ifo" => Ok(PolicyName::Fifo),
+                _ => Err(TextFault::NoPolicy),
+            },
+            [b'l', rest @ ..] => match rest {
+                b"ru" => Ok(PolicyName::Lru),
+                _ => Err(TextFault::NoPolicy),
+            },
+            [b'c', rest @ ..] => match rest {
+                b"lock" => Ok(PolicyName::Clock),
+                _ => Err(TextFault::NoPolicy),
+            },
+            _ => Err(TextFault::NoPolicy),
+        }
     }
 }
 
@@ -37,10 +43,7 @@ pub(crate) fn first_space(text: &[u8]) -> usize
     ensures end { result ≡ word_end text.now }
     ensures within { result ≤ length text.now }
 {
-    for (at, byte) in text.iter().enumerate() {
-        if is_space(*byte) {
-            return at;
-        }
-    }
-    text.len()
+    text.iter()
+        .position(|byte| is_space(*byte))
+        .unwrap_or(text.len())
 }

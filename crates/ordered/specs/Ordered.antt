@@ -1,7 +1,6 @@
 -- What a policy over an order means. Assumes nothing.
 use Rattle.std.specs.Prelude.{ℕ, ◌+◌}
 use Rattle.policy.specs.Model.{Model}
-use Rattle.ordered.specs.declared.ordered.Ordered.{Ordered}
 use Rattle.ordered.specs.Orders.{OrderModel}
 
 -- a standing: the order, and the faults counted
@@ -12,14 +11,10 @@ pub record Kept (O : Type 0) : Type 0 where
 abbrev pub kept : {O : Type 0} → O → ℕ → Kept O
 kept x n = record { order = x; faults = n }
 
-abbrev pub state_of : {V O : Type 0} → (V → O) → Ordered V → Kept O
-state_of placed v = kept (placed v.order) v.faults
-
 -- it has no settings; load, hit, drop and give go to the order
-abbrev pub ordered : OrderModel → Model
-ordered o = record {
-  State = Kept o.Order;
-  Order = o.Order;
+abbrev pub ordered : {O : Type 0} → OrderModel O → Model (Kept O)
+ordered {O = O} o = record {
+  Order = O;
   Setting = Unit {0};
   pages = λ s. o.pages s.order;
   count = λ s. s.faults;

@@ -1,42 +1,41 @@
-// An order of pages. What each call makes of it is a function of the order before; a page that does not fit changes nothing.
+// An order of pages. What each call makes of it is a function of the order before; a page that does
+// not fit changes nothing.
 ghost use Rattle.std.specs.Prelude.{◌≡◌, length, if◌then◌else◌};
 ghost use Rattle.pages.specs.Lists.{has, joins};
 ghost use Rattle.policy.specs.Model.{capped};
 ghost use Rattle.ordered.specs.Orders.{OrderModel, LawfulOrder};
 
 pub trait PageOrder {
-    ghost orders: { OrderModel };
-
-    // The order that a value has.
-    ghost placed: { Self → orders.Order };
+    // What the order means, whose values are the orders.
+    ghost orders: { OrderModel Self };
 
     // Lets every page go.
     fn clear(&mut self)
-        ensures { placed self.new ≡ orders.empty };
+        ensures { self.new ≡ orders.empty };
 
     // Takes a page in.
     fn put(&mut self, page: u32)
-        ensures { placed self.new ≡ (if joins page (orders.pages (placed self.old)) then orders.on_put (placed self.old) page else placed self.old) };
+        ensures { self.new ≡ (if joins page (orders.pages self.old) then orders.on_put self.old page else self.old) };
 
     // Takes note of a hit.
     fn hit(&mut self, page: u32)
-        ensures { placed self.new ≡ (if has page (orders.pages (placed self.old)) then orders.on_hit (placed self.old) page else placed self.old) };
+        ensures { self.new ≡ (if has page (orders.pages self.old) then orders.on_hit self.old page else self.old) };
 
     // Lets a page go.
     fn remove(&mut self, page: u32)
-        ensures { placed self.new ≡ (if has page (orders.pages (placed self.old)) then orders.on_remove (placed self.old) page else placed self.old) };
+        ensures { self.new ≡ (if has page (orders.pages self.old) then orders.on_remove self.old page else self.old) };
 
     // Lets the page go that the order puts first.
     fn take(&mut self) -> Option<u16>
-        ensures page { result ≡ orders.takes (placed self.old) }
-        ensures after { placed self.new ≡ orders.on_take (placed self.old) };
+        ensures page { result ≡ orders.takes self.old }
+        ensures after { self.new ≡ orders.on_take self.old };
 
     fn contains(&self, page: u32) -> bool
-        ensures { result ≡ has page (orders.pages (placed self.now)) };
+        ensures { result ≡ has page (orders.pages self.now) };
 
     // How many pages there are, counted up to 1,024.
     fn len(&self) -> u16
-        ensures { result ≡ capped (length (orders.pages (placed self.now))) };
+        ensures { result ≡ capped (length (orders.pages self.now)) };
 
     ghost laws: { LawfulOrder orders };
 }

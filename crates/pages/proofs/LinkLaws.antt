@@ -17,7 +17,7 @@ walk_chained ns a (x ∷ xs) b f =
     let ih = walk_chained ns x xs b (grind (arith, nat_tests)) in rw (e, ih)
 
 -- a table with one entry written
-pub link_set : (ns : List ℕ) (a v q : ℕ) → a < length ns → link (set ns a v) q ≡ cond (eqb q a) v (link ns q)
+link_set : (ns : List ℕ) (a v q : ℕ) → a < length ns → link (set ns a v) q ≡ cond (eqb q a) v (link ns q)
 link_set ns a v q l = elim (cases_eq q a) [
   | inl e ↦ let k = get_or-set_same ns a v 0 l in grind (arith, nat_tests)
   | inr n ↦ let k = get_or-set_other ns a q v 0 n in grind (arith, nat_tests)
@@ -34,7 +34,7 @@ forth_set ns u v a [] b l h = let e = link_set ns u v a l in grind (arith, nat_t
 forth_set ns u v a (x ∷ xs) b l h =
     let e = link_set ns u v a l in let ih = forth_set ns u v x xs b l (grind (arith, nat_tests)) in grind (arith, nat_tests)
 
-back_set : (ps : List ℕ) (u v a : ℕ) (xs : List ℕ) (b : ℕ) → u < length ps → has u (b ∷ xs) ≡ false → chained_back (set ps u v) a xs b ≡ chained_back ps a xs b
+pub back_set : (ps : List ℕ) (u v a : ℕ) (xs : List ℕ) (b : ℕ) → u < length ps → has u (b ∷ xs) ≡ false → chained_back (set ps u v) a xs b ≡ chained_back ps a xs b
 back_set ps u v a [] b l h = let e = link_set ps u v b l in grind (arith, nat_tests)
 back_set ps u v a (x ∷ xs) b l h =
     let e = link_set ps u v x l in let ih = back_set ps u v x xs b l (grind (arith, nat_tests)) in grind (arith, nat_tests)
@@ -66,6 +66,13 @@ module _ (ns ps : List ℕ) (b : ℕ) where
   pub back_within : (q a : ℕ) (xs : List ℕ) → Strung ns ps a xs b → has q (b ∷ xs) ≡ true → has (link ps q) (a ∷ xs) ≡ true
   back_within q a [] t h = grind (arith, nat_tests)
   back_within q a (x ∷ xs) t h = let ih = back_within q x xs (on a x xs t) in grind (arith, nat_tests)
+
+  -- no page of the list is linked to itself
+  pub leads_on : (q a : ℕ) (xs : List ℕ) → Strung ns ps a xs b → has q xs ≡ true → eqb (link ns q) q ≡ false
+  leads_on q a [] t h = grind arith
+  leads_on q a (x ∷ xs) t h =
+      let w = forth_within x x xs (on a x xs t) (grind (arith, nat_tests)) in
+      let ih = leads_on q x xs (on a x xs t) in grind (arith, nat_tests)
 
   -- p leaves: the one before it leads to the one behind it, and that one back
 
@@ -103,13 +110,13 @@ module _ (ns ps : List ℕ) (b : ℕ) where
 
   -- p joins at the end, before b
 
-  pub forth_join : (p a : ℕ) (xs : List ℕ) → Strung ns ps a xs b → has p (a ∷ xs) ≡ false → link ps b < length ns → p < length ns → chained (set (set ns (link ps b) p) p b) a (xs ++ p ∷ []) b ≡ true
+  pub forth_join : (p a : ℕ) (xs : List ℕ) → Strung ns ps a xs b → has p (a ∷ xs) ≡ false → link ps b < length ns → p < length ns → chained (set (set ns p b) (link ps b) p) a (xs ++ p ∷ []) b ≡ true
   forth_join p a [] t h l m =
-      let e = link_sets ns (link ps b) p p b a l m in
-      let g = link_sets ns (link ps b) p p b p l m in grind (arith, nat_tests)
+      let e = link_sets ns p b (link ps b) p a m l in
+      let g = link_sets ns p b (link ps b) p p m l in grind (arith, nat_tests)
   forth_join p a (x ∷ xs) t h l m =
       let w = back_within b x xs (on a x xs t) (grind (arith, nat_tests)) in
-      let e = link_sets ns (link ps b) p p b a l m in
+      let e = link_sets ns p b (link ps b) p a m l in
       let ih = forth_join p x xs (on a x xs t) (grind (arith, nat_tests)) l m in grind (arith, nat_tests)
 
   pub back_join : (p a : ℕ) (xs : List ℕ) → Strung ns ps a xs b → has p (b ∷ xs) ≡ false → b < length ps → p < length ps → chained_back (set (set ps p (link ps b)) b p) a (xs ++ p ∷ []) b ≡ true

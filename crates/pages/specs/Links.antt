@@ -1,7 +1,15 @@
--- A queue as two tables of links, over the pages and one end mark: forth to the next, back to the one before. Assumes nothing.
-use Rattle.std.specs.Prelude.{ℕ, zero, suc, Bool, ◌&&◌, List, [], ◌∷◌, ◌==◌, slice_index}
+-- A queue as a table of links, over the pages and one end mark: forth to the next, back to the one before. Assumes nothing.
+use Rattle.std.specs.Prelude.{ℕ, zero, suc, Bool, ◌&&◌, List, [], ◌∷◌, map, ◌==◌, slice_index}
+use Rattle.pages.specs.declared.queue.Link.{Link}
 
--- what a table has for a
+-- the links forth of a table, and its links back
+abbrev pub nexts : List Link → List ℕ
+nexts ls = map (λ l. l.next) ls
+
+abbrev pub prevs : List Link → List ℕ
+prevs ls = map (λ l. l.prev) ls
+
+-- what a list of links has for a
 abbrev pub link : List ℕ → ℕ → ℕ
 link ns a = slice_index ns a
 

@@ -6,7 +6,7 @@ use Rattle.pages.specs.Lists.{has}
 use Rattle.policy.specs.Laws.{Checked}
 use Rattle.policy.specs.Model.{Model, fault_refusal, load_refusal, held_refusal}
 
-module _ (m : Model) (s : m.State) (p : ℕ) where
+module _ {S : Type 0} (m : Model S) (s : S) (p : ℕ) where
   pub fault_facts : fault_refusal m s p ≡ None → (p < 4096) × (has p (m.pages s) ≡ false) × (m.count s < 16000000)
   fault_facts r = (grind (arith, nat_tests), grind (arith, nat_tests), grind (arith, nat_tests))
 

@@ -10,10 +10,9 @@ not_numbered true x y = refl
 not_numbered false x y = refl
 
 -- no number is above the count of the calls
-pub latest_by_low : (m : Model) (x : m.Setting) (such : m.State → ℕ → Call → Bool) (cs : List Call) (q : ℕ) → latest_by m x such q cs ≤ length cs
+pub latest_by_low : {S : Type 0} (m : Model S) (x : m.Setting) (such : S → ℕ → Call → Bool) (cs : List Call) (q : ℕ) → latest_by m x such q cs ≤ length cs
 latest_by_low m x such [] q = omega arith
 latest_by_low m x such (c ∷ cs) q = let ih = latest_by_low m x such cs q in grind (arith, nat_tests)
 
-pub latest_low : (m : Model) (x : m.Setting) (such : ℕ → Call → Bool) (cs : List Call) (q : ℕ) → latest m x such q cs ≤ length cs
-latest_low m x such [] q = omega arith
-latest_low m x such (c ∷ cs) q = let ih = latest_low m x such cs q in grind (arith, nat_tests)
+pub latest_low : {S : Type 0} (m : Model S) (x : m.Setting) (such : ℕ → Call → Bool) (cs : List Call) (q : ℕ) → latest m x such q cs ≤ length cs
+latest_low m x such = latest_by_low m x (λ s. such)

@@ -12,13 +12,13 @@ pub held_has : (p : ℕ) (xs : List ℕ) → sound xs ≡ true → held p xs ≡
 held_has p xs s =
     let k : has p xs ≡ true → p < 4096 = has_small p xs s in grind (arith, nat_tests)
 
-module _ (m : Model) (l : Lawful m) where
+module _ {S : Type 0} (m : Model S) (l : Lawful m) where
   gives_fits : (o : Option ℕ) (xs ys : List ℕ) → sound xs ≡ true → length xs ≤ 1024 → Gives o xs ys → (sound ys ≡ true) × (length ys ≤ 1024)
   gives_fits None xs ys f n g = (ap sound g.1, omega (arith, ap length g.1))
   gives_fits (Some p) xs ys f n g = (g.stays, omega (arith, g.shorter))
 
   -- a call that is allowed leaves a sound standing
-  pub accepted_sound : (s : m.State) (c : Call) → Allowed m s c → Sound m (accepted m s c)
+  pub accepted_sound : (s : S) (c : Call) → Allowed m s c → Sound m (accepted m s c)
   accepted_sound s clear a =
       let e = l.effects s clear a in
       record { fits = ap sound e.0; few = omega (arith, ap length e.0); counted = omega (arith, e.1); fine = l.stays_fine s clear a }
@@ -38,7 +38,7 @@ module _ (m : Model) (l : Lawful m) where
       let e = l.effects s give a in let k = gives_fits (m.gives s) (m.pages s) _ a.0.fits a.0.few e.0 in
       record { fits = k.0; few = k.1; counted = omega (arith, e.1, a.0.counted); fine = l.stays_fine s give a }
 
-  pub allowed : (s : m.State) (c : Call) → Sound m s → refusal m s c ≡ None → Allowed m s c
+  pub allowed : (s : S) (c : Call) → Sound m s → refusal m s c ≡ None → Allowed m s c
   allowed s clear g r = tt
   allowed s (fault p) g r = (g, r)
   allowed s (load p) g r = (g, r)
@@ -47,42 +47,42 @@ module _ (m : Model) (l : Lawful m) where
   allowed s give g r = (g, r)
 
   -- what an accepted call leaves has its effect
-  pub after_effect : (s : m.State) (c : Call) → Sound m s → refusal m s c ≡ None → Effect m s c (after m s c)
+  pub after_effect : (s : S) (c : Call) → Sound m s → refusal m s c ≡ None → Effect m s c (after m s c)
   after_effect s c g r = subst (Effect m s c) (ap (λ o. unless o s (accepted m s c)) (sym r)) (l.effects s c (allowed s c g r))
 
   -- what holds of s, and of every accepted call, holds after a call
-  pub after_any : (P : m.State → Type 0) (s : m.State) (c : Call) → P s → (refusal m s c ≡ None → P (accepted m s c)) → P (after m s c)
+  pub after_any : (P : S → Type 0) (s : S) (c : Call) → P s → (refusal m s c ≡ None → P (accepted m s c)) → P (after m s c)
   after_any P s c h f = by (refusal m s c) f
     where
       by : (o : Option PolicyFault) → (o ≡ None → P (accepted m s c)) → P (unless o s (accepted m s c))
       by None g = g refl
       by (Some x) g = h
 
-  pub after_sound : (s : m.State) (c : Call) → Sound m s → Sound m (after m s c)
+  pub after_sound : (s : S) (c : Call) → Sound m s → Sound m (after m s c)
   after_sound s c g = after_any (Sound m) s c g (λ r. accepted_sound s c (allowed s c g r))
 
-  pub after_settled : (s : m.State) (c : Call) → Sound m s → m.setting (after m s c) ≡ m.setting s
+  pub after_settled : (s : S) (c : Call) → Sound m s → m.setting (after m s c) ≡ m.setting s
   after_settled s c g = after_any (λ t. m.setting t ≡ m.setting s) s c refl (λ r. l.settled s c (allowed s c g r))
 
-  all_sound : (s : m.State) (cs : List Call) → Sound m s → Sound m (after_all m s cs)
+  all_sound : (s : S) (cs : List Call) → Sound m s → Sound m (after_all m s cs)
   all_sound s [] g = g
   all_sound s (c ∷ cs) g = all_sound (after m s c) cs (after_sound s c g)
 
-  all_settled : (s : m.State) (cs : List Call) → Sound m s → m.setting (after_all m s cs) ≡ m.setting s
+  all_settled : (s : S) (cs : List Call) → Sound m s → m.setting (after_all m s cs) ≡ m.setting s
   all_settled s [] g = refl
   all_settled s (c ∷ cs) g = all_settled (after m s c) cs (after_sound s c g) ∙ after_settled s c g
 
-  unchanged : (s : m.State) (c : Call) (f : PolicyFault) → refusal m s c ≡ Some f → after m s c ≡ s
+  unchanged : (s : S) (c : Call) (f : PolicyFault) → refusal m s c ≡ Some f → after m s c ≡ s
   unchanged s c f e = ap (λ o. unless o s (accepted m s c)) e
 
-  pub none_given : (s : m.State) → Sound m s → m.gives s ≡ None → m.pages s ≡ []
+  pub none_given : (s : S) → Sound m s → m.gives s ≡ None → m.pages s ≡ []
   none_given s g e = by (m.gives s) e (l.effects s give (g, refl)).0
     where
       by : (o : Option ℕ) → o ≡ None → Gives o (m.pages s) (m.pages (m.on_give s)) → m.pages s ≡ []
       by None e k = k.0
       by (Some p) e k = let z : ◌≡◌ {A = ℕ} 0 1 = cc in absurd (omega arith)
 
-  pub none_held : (s : m.State) → Sound m s → m.pages s ≡ [] → m.gives s ≡ None
+  pub none_held : (s : S) → Sound m s → m.pages s ≡ [] → m.gives s ≡ None
   none_held s g e = by (m.gives s) (l.effects s give (g, refl)).0
     where
       by : (o : Option ℕ) → Gives o (m.pages s) (m.pages (m.on_give s)) → o ≡ None

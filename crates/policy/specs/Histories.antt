@@ -4,15 +4,6 @@ use Rattle.policy.specs.declared.fault.PolicyFault.{PolicyFault}
 use Rattle.pages.specs.Lists.{has}
 use Rattle.policy.specs.Model.{Model, Call, clear, fault, load, hit, drop, give, refusal, after}
 
--- whether a call is a load of p
-abbrev pub loads : ℕ → Call → Bool
-loads p clear = false
-loads p (fault q) = false
-loads p (load q) = q == p
-loads p (hit q) = false
-loads p (drop q) = false
-loads p give = false
-
 -- whether a call is a load of p or, where hits count, a hit of p
 abbrev pub loads_or_hits : Bool → ℕ → Call → Bool
 loads_or_hits hits p clear = false
@@ -22,6 +13,10 @@ loads_or_hits hits p (hit q) = hits && q == p
 loads_or_hits hits p (drop q) = false
 loads_or_hits hits p give = false
 
+-- a load of p
+abbrev pub loads : ℕ → Call → Bool
+loads = loads_or_hits false
+
 -- a load or a hit of p
 abbrev pub uses : ℕ → Call → Bool
 uses = loads_or_hits true
@@ -30,23 +25,22 @@ abbrev pub passed : Option PolicyFault → Bool
 passed None = true
 passed (Some f) = false
 
-module _ (m : Model) (x : m.Setting) where
+module _ {S : Type 0} (m : Model S) (x : m.Setting) where
   -- the standing after the calls
-  abbrev pub reached : List Call → m.State
+  abbrev pub reached : List Call → S
   reached [] = m.opening x
   reached (c ∷ cs) = after m (reached cs) c
 
-  -- the number of the latest accepted call of p that is such, counted from 1 for the first call; 0 where there is none
-  abbrev pub latest : (ℕ → Call → Bool) → ℕ → List Call → ℕ
-  latest such p [] = 0
-  latest such p (c ∷ cs) = cond (such p c && passed (refusal m (reached cs) c)) (length cs + 1) (latest such p cs)
-
-  -- the same where what is such of p is told by the standing before the call too
-  abbrev pub latest_by : (m.State → ℕ → Call → Bool) → ℕ → List Call → ℕ
+  -- the number of the latest accepted call of p that is such in the standing before it, counted from 1 for the first call; 0 where there is none
+  abbrev pub latest_by : (S → ℕ → Call → Bool) → ℕ → List Call → ℕ
   latest_by such p [] = 0
   latest_by such p (c ∷ cs) = cond (such (reached cs) p c && passed (refusal m (reached cs) c)) (length cs + 1) (latest_by such p cs)
 
+  -- the same where the call alone tells
+  abbrev pub latest : (ℕ → Call → Bool) → ℕ → List Call → ℕ
+  latest such = latest_by (λ s. such)
+
 -- of the pages held, give answers the one whose latest such call is earliest
-abbrev pub GivesEarliest : (m : Model) → (ℕ → Call → Bool) → Type 0
+abbrev pub GivesEarliest : {S : Type 0} (m : Model S) → (ℕ → Call → Bool) → Type 0
 GivesEarliest m such = (x : m.Setting) (cs : List Call) (p : ℕ) → m.gives (reached m x cs) ≡ Some p →
     (has p (m.pages (reached m x cs)) ≡ true) × ((q : ℕ) → has q (m.pages (reached m x cs)) ≡ true → (q ≢ p) → latest m x such p cs < latest m x such q cs)

@@ -24,16 +24,21 @@ abbrev pub told : Option PolicyFault → Reply
 told None = done
 told (Some f) = refused f
 
-module _ (m : Model) where
+module _ {S : Type 0} (m : Model S) where
   -- a standing that a policy can have
-  pub record Sound (s : m.State) : Type 0 where
+  pub record Sound (s : S) : Type 0 where
     pub fits : sound (m.pages s) ≡ true
     pub few : length (m.pages s) ≤ 1024
     pub counted : m.count s ≤ 16000000
     pub fine : m.Fine s
 
+  -- the standing of a policy as it is made with settings x
+  pub record AsMade (x : m.Setting) (s : S) : Type 0 where
+    pub cleared : s ≡ m.opening x
+    pub sound : Sound s
+
   -- where the interface says what an accepted call leaves: clear anywhere, any other call in a sound standing that does not refuse it
-  abbrev pub Allowed : m.State → Call → Type 0
+  abbrev pub Allowed : S → Call → Type 0
   Allowed s clear = Unit {0}
   Allowed s (fault p) = Sound s × (refusal m s (fault p) ≡ None)
   Allowed s (load p) = Sound s × (refusal m s (load p) ≡ None)
@@ -42,7 +47,7 @@ module _ (m : Model) where
   Allowed s give = Sound s × (refusal m s give ≡ None)
 
   -- what such a call does to the pages and to the count
-  abbrev pub Effect : m.State → Call → m.State → Type 0
+  abbrev pub Effect : S → Call → S → Type 0
   Effect s clear t = (m.pages t ≡ []) × (m.count t ≡ 0)
   Effect s (fault p) t = Keeps (m.pages s) (m.pages t) × (m.count t ≡ m.count s + 1)
   Effect s (load p) t = Adds p (m.pages s) (m.pages t) × (m.count t ≡ m.count s)
@@ -53,19 +58,19 @@ module _ (m : Model) where
   -- what a policy shows
   pub record Lawful : Type 0 where
     -- a standing is its pages, count, order and settings, and no more
-    pub whole : (s t : m.State) → m.pages s ≡ m.pages t → m.count s ≡ m.count t → m.order s ≡ m.order t → m.setting s ≡ m.setting t → s ≡ t
-    pub effects : (s : m.State) (c : Call) → Allowed s c → Effect s c (accepted m s c)
+    pub whole : (s t : S) → m.pages s ≡ m.pages t → m.count s ≡ m.count t → m.order s ≡ m.order t → m.setting s ≡ m.setting t → s ≡ t
+    pub effects : (s : S) (c : Call) → Allowed s c → Effect s c (accepted m s c)
     -- no call changes the settings
-    pub settled : (s : m.State) (c : Call) → Allowed s c → m.setting (accepted m s c) ≡ m.setting s
+    pub settled : (s : S) (c : Call) → Allowed s c → m.setting (accepted m s c) ≡ m.setting s
     -- and each keeps what the policy keeps of its own
-    pub stays_fine : (s : m.State) (c : Call) → Allowed s c → m.Fine (accepted m s c)
+    pub stays_fine : (s : S) (c : Call) → Allowed s c → m.Fine (accepted m s c)
 
   -- by which number a call is refused, if it is
-  abbrev pub refused_by : m.State → Call → Option ℕ
+  abbrev pub refused_by : S → Call → Option ℕ
   refused_by s c = numbered (refusal m s c)
 
   -- the checks of each call on p, in their order, by number: the first that fails refuses
-  pub record Checked (s : m.State) (p : ℕ) : Type 0 where
+  pub record Checked (s : S) (p : ℕ) : Type 0 where
     pub fault_no_page : 4096 ≤ p → refused_by s (fault p) ≡ Some 1
     pub fault_held : p < 4096 → has p (m.pages s) ≡ true → refused_by s (fault p) ≡ Some 6
     pub fault_many : p < 4096 → has p (m.pages s) ≡ false → 16000000 ≤ m.count s → refused_by s (fault p) ≡ Some 2
@@ -81,7 +86,7 @@ module _ (m : Model) where
     pub drop_absent : p < 4096 → has p (m.pages s) ≡ false → refused_by s (drop p) ≡ Some 7
     pub drop_accepted : p < 4096 → has p (m.pages s) ≡ true → refused_by s (drop p) ≡ None
 
-  abbrev pub reply : m.State → Call → Reply
+  abbrev pub reply : S → Call → Reply
   reply s clear = done
   reply s (fault p) = told (refusal m s (fault p))
   reply s (load p) = told (refusal m s (load p))
@@ -89,27 +94,27 @@ module _ (m : Model) where
   reply s (drop p) = told (refusal m s (drop p))
   reply s give = page (m.gives s)
 
-  abbrev pub replies : m.State → List Call → List Reply
+  abbrev pub replies : S → List Call → List Reply
   replies s [] = []
   replies s (c ∷ cs) = reply s c ∷ replies (after m s c) cs
 
   -- what follows, for every standing and every list of calls
   pub record PolicyLaws : Type 0 where
     -- a sound standing stays sound, and keeps its settings
-    pub stays_sound : (s : m.State) (cs : List Call) → Sound s → Sound (after_all m s cs)
-    pub keeps_settings : (s : m.State) (cs : List Call) → Sound s → m.setting (after_all m s cs) ≡ m.setting s
+    pub stays_sound : (s : S) (cs : List Call) → Sound s → Sound (after_all m s cs)
+    pub keeps_settings : (s : S) (cs : List Call) → Sound s → m.setting (after_all m s cs) ≡ m.setting s
     -- from a clear on every standing is sound, whatever was before
-    pub clear_sound : (s : m.State) (cs : List Call) → Sound (after_all m s (clear ∷ cs))
+    pub clear_sound : (s : S) (cs : List Call) → Sound (after_all m s (clear ∷ cs))
     -- of equal settings cleared standings are equal
-    pub clear_alike : (s t : m.State) → m.setting s ≡ m.setting t → after m s clear ≡ after m t clear
+    pub clear_alike : (s t : S) → m.setting s ≡ m.setting t → after m s clear ≡ after m t clear
     -- a cleared policy answers as a new one
-    pub forgets : (s : m.State) (before cs : List Call) → Sound s → replies (after_all m s before) (clear ∷ cs) ≡ replies s (clear ∷ cs)
+    pub forgets : (s : S) (before cs : List Call) → Sound s → replies (after_all m s before) (clear ∷ cs) ≡ replies s (clear ∷ cs)
     -- which calls are refused, and by which number
-    pub checked : (s : m.State) (p : ℕ) → Checked s p
-    pub refused_unchanged : (s : m.State) (c : Call) (f : PolicyFault) → refusal m s c ≡ Some f → after m s c ≡ s
+    pub checked : (s : S) (p : ℕ) → Checked s p
+    pub refused_unchanged : (s : S) (c : Call) (f : PolicyFault) → refusal m s c ≡ Some f → after m s c ≡ s
     -- none is given exactly where none is held
-    pub none_given : (s : m.State) → Sound s → m.gives s ≡ None → m.pages s ≡ []
-    pub none_held : (s : m.State) → Sound s → m.pages s ≡ [] → m.gives s ≡ None
+    pub none_given : (s : S) → Sound s → m.gives s ≡ None → m.pages s ≡ []
+    pub none_held : (s : S) → Sound s → m.pages s ≡ [] → m.gives s ≡ None
     -- how many are held is counted exactly, and a page that is listed is one below 4,096
-    pub exact : (s : m.State) → Sound s → capped (length (m.pages s)) ≡ length (m.pages s)
-    pub held_is_member : (s : m.State) (p : ℕ) → Sound s → held p (m.pages s) ≡ has p (m.pages s)
+    pub exact : (s : S) → Sound s → capped (length (m.pages s)) ≡ length (m.pages s)
+    pub held_is_member : (s : S) (p : ℕ) → Sound s → held p (m.pages s) ≡ has p (m.pages s)

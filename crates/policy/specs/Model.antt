@@ -1,4 +1,4 @@
--- What a policy means: its standings, and what each call does to one. Assumes nothing.
+-- What a policy means: what a standing tells, and what each call does to one. Assumes nothing.
 use Rattle.std.specs.Prelude.{ℕ, Bool, true, false, cond, not, ◌&&◌, List, [], ◌∷◌, length, Some, None, Ok, Err, Option, Result, nat_le, nat_lt}
 use Rattle.policy.specs.declared.fault.PolicyFault.{PolicyFault}
 use Rattle.policy.specs.declared.fault.PolicyFault.TheVariants.{NotAPage, TooManyFaults, AlreadyHeld, NotHeld, Full}
@@ -6,8 +6,7 @@ use Rattle.pages.specs.Lists.{has}
 
 -- A policy by its standings. A standing has pages, a count of accepted faults, an order of the policy's own, and the settings
 -- that the policy was made with. What an accepted call leaves is a function of the standing and of the call.
-pub record Model : Type 1 where
-  pub State : Type 0
+pub record Model (State : Type 0) : Type 1 where
   pub Order : Type 0
   pub Setting : Type 0
   pub pages : State → List ℕ
@@ -47,10 +46,14 @@ abbrev pub refuse_if : Bool → PolicyFault → Option PolicyFault → Option Po
 refuse_if true f next = Some f
 refuse_if false f next = next
 
--- what is no page is refused, and then a page that is held, or one that is not
-abbrev pub absent_check : ℕ → Bool → Option PolicyFault
-absent_check p is_held = refuse_if (nat_le 4096 p) NotAPage (refuse_if is_held AlreadyHeld None)
+-- what is no page is refused, and then a page that is held; else the next tests say
+abbrev pub absent_then : ℕ → Bool → Option PolicyFault → Option PolicyFault
+absent_then p is_held next = refuse_if (nat_le 4096 p) NotAPage (refuse_if is_held AlreadyHeld next)
 
+abbrev pub absent_check : ℕ → Bool → Option PolicyFault
+absent_check p is_held = absent_then p is_held None
+
+-- what is no page is refused, and then a page that is not held
 abbrev pub held_check : ℕ → Bool → Option PolicyFault
 held_check p is_held = refuse_if (nat_le 4096 p) NotAPage (refuse_if (not is_held) NotHeld None)
 
@@ -64,22 +67,19 @@ abbrev pub unless : {S : Type 0} → Option PolicyFault → S → S → S
 unless None before after = after
 unless (Some f) before after = before
 
-module _ (m : Model) where
+module _ {S : Type 0} (m : Model S) where
   -- the checks of each call, in their order
-  abbrev pub absent_refusal : m.State → ℕ → Option PolicyFault
-  absent_refusal s p = refuse_if (nat_le 4096 p) NotAPage (refuse_if (has p (m.pages s)) AlreadyHeld None)
+  abbrev pub fault_refusal : S → ℕ → Option PolicyFault
+  fault_refusal s p = absent_then p (has p (m.pages s)) (refuse_if (nat_le 16000000 (m.count s)) TooManyFaults None)
 
-  abbrev pub fault_refusal : m.State → ℕ → Option PolicyFault
-  fault_refusal s p = refuse_if (nat_le 4096 p) NotAPage (refuse_if (has p (m.pages s)) AlreadyHeld (refuse_if (nat_le 16000000 (m.count s)) TooManyFaults None))
+  abbrev pub load_refusal : S → ℕ → Option PolicyFault
+  load_refusal s p = absent_then p (has p (m.pages s)) (refuse_if (nat_le 1024 (length (m.pages s))) Full None)
 
-  abbrev pub load_refusal : m.State → ℕ → Option PolicyFault
-  load_refusal s p = refuse_if (nat_le 4096 p) NotAPage (refuse_if (has p (m.pages s)) AlreadyHeld (refuse_if (nat_le 1024 (length (m.pages s))) Full None))
-
-  abbrev pub held_refusal : m.State → ℕ → Option PolicyFault
-  held_refusal s p = refuse_if (nat_le 4096 p) NotAPage (refuse_if (not (has p (m.pages s))) NotHeld None)
+  abbrev pub held_refusal : S → ℕ → Option PolicyFault
+  held_refusal s p = held_check p (has p (m.pages s))
 
   -- why a call is refused: the first of its checks that fails
-  abbrev pub refusal : m.State → Call → Option PolicyFault
+  abbrev pub refusal : S → Call → Option PolicyFault
   refusal s clear = None
   refusal s (fault p) = fault_refusal s p
   refusal s (load p) = load_refusal s p
@@ -88,7 +88,7 @@ module _ (m : Model) where
   refusal s give = None
 
   -- the standing that an accepted call leaves
-  abbrev pub accepted : m.State → Call → m.State
+  abbrev pub accepted : S → Call → S
   accepted s clear = m.opening (m.setting s)
   accepted s (fault p) = m.on_fault s p
   accepted s (load p) = m.on_load s p
@@ -97,9 +97,9 @@ module _ (m : Model) where
   accepted s give = m.on_give s
 
   -- the standing after a call: a refused one changes nothing
-  abbrev pub after : m.State → Call → m.State
+  abbrev pub after : S → Call → S
   after s c = unless (refusal s c) s (accepted s c)
 
-  abbrev pub after_all : m.State → List Call → m.State
+  abbrev pub after_all : S → List Call → S
   after_all s [] = s
   after_all s (c ∷ cs) = after_all (after s c) cs

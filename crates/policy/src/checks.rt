@@ -1,4 +1,5 @@
-// The checks that the calls of a policy share.
+// The checks that the calls of a policy share. They are two functions: one for both would take the
+// wanted answer and the fault besides, and each call would have to name the right pair.
 ghost use Rattle.std.specs.Prelude.{◌≡◌};
 ghost use Rattle.policy.specs.Model.{answer, absent_check, held_check};
 

@@ -3,7 +3,8 @@ ghost use Rattle.policy.specs.Laws.{PolicyLaws};
 
 use crate::policy::Policy;
 
-// A sound standing stays sound, a cleared policy is as a new one, and a refused call changes nothing.
+// A sound standing stays sound, a cleared policy is as a new one, and a refused call changes
+// nothing.
 pub fn policy_laws<P: Policy>()
     ensures { PolicyLaws P.model }
 {}

@@ -1,4 +1,5 @@
-// Reads a number of frames and pages from standard input, and prints what each touch came to over FIFO and the totals.
+// Reads a number of frames and pages from standard input, and prints what each touch came to over
+// FIFO, and the totals.
 #![tactic(auto)]
 
 use listing::listing::listing;

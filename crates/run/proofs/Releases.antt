@@ -12,11 +12,11 @@ use Rattle.settings.specs.declared.fault.Layer.{Layer}
 use Rattle.settings.specs.declared.fault.RunFault.{RunFault}
 use Rattle.run.specs.Answers as say
 use Rattle.run.specs.Answers.{told, freed}
-use Rattle.run.specs.Run.{Run, up, release_answer, release_after}
+use Rattle.run.specs.Run.{Run, run, up, release_answer, release_after}
 use Rattle.run.specs.Laws.{Within, memory, ReleaseTold}
 use Rattle.run.proofs.Touches.{taken}
 
-module _ (m : Model) (l : Lawful m) (r : Run m.State) (p : ℕ) (w : Within m r) where
+module _ {S : Type 0} (m : Model S) (l : Lawful m) (r : Run S) (p : ℕ) (w : Within m r) where
   no_page : 4096 ≤ p → refusal m r.policy (drop p) ≡ Some NotAPage
   no_page a = rw (le-leb 4096 p a) refl
 
@@ -37,7 +37,7 @@ module _ (m : Model) (l : Lawful m) (r : Run m.State) (p : ℕ) (w : Within m r)
     drop_effect = l.effects r.policy (drop p) (w.sound, drop_none)
 
   -- what holds of the policy where the release is refused, and where it is not
-  either : (P : m.State → Type 0) → P r.policy → ((a : p < 4096) (h : has p (memory m r) ≡ true) → P (m.on_drop r.policy p)) → P (after m r.policy (drop p))
+  either : (P : S → Type 0) → P r.policy → ((a : p < 4096) (h : has p (memory m r) ≡ true) → P (m.on_drop r.policy p)) → P (after m r.policy (drop p))
   either P same gone =
       elim (cases_lt p 4096) [
         | inr a ↦ subst P (sym (refused_after NotAPage (no_page a))) same
@@ -56,13 +56,14 @@ module _ (m : Model) (l : Lawful m) (r : Run m.State) (p : ℕ) (w : Within m r)
     faults_told = either (λ s. m.count s ≡ r.figures.faults) w.faults_told (λ a h. (drop_effect a h).1 ∙ w.faults_told);
     faults_touch = w.faults_touch;
     limited = w.limited;
+    outs_fault = w.outs_fault;
   }
 
   unchanged : (f : ℕ) (k : Layer) → told (freed (release_answer m r p)) ≡ say.refused f k → release_after m r p ≡ r
-  unchanged f k x = ap (λ s. let u : Run m.State = record { frames = r.frames; policy = s; figures = r.figures } in u) (by (refusal m r.policy (drop p)) x)
+  unchanged f k x = ap (λ s. run r.frames s r.figures) (by (refusal m r.policy (drop p)) x)
     where
       by : (o : Option PolicyFault) → told (freed (up o (Ok tt))) ≡ say.refused f k → unless o r.policy (m.on_drop r.policy p) ≡ r.policy
-      by None e = let z : ◌≡◌ {A = ℕ} 0 1 = cc in absurd (omega arith)
+      by None e = cc
       by (Some g) e = refl
 
   told_of : ReleaseTold m r p (freed (release_answer m r p)) (release_after m r p)
@@ -76,5 +77,5 @@ module _ (m : Model) (l : Lawful m) (r : Run m.State) (p : ℕ) (w : Within m r)
   }
 
 -- of an answer and a run that are the release's
-pub release_told : (m : Model) (l : Lawful m) (r : Run m.State) (p : ℕ) (x : Result (Unit {0}) RunFault) (t : Run m.State) → x ≡ release_answer m r p → t ≡ release_after m r p → Within m r → ReleaseTold m r p (freed x) t
+pub release_told : {S : Type 0} (m : Model S) (l : Lawful m) (r : Run S) (p : ℕ) (x : Result (Unit {0}) RunFault) (t : Run S) → x ≡ release_answer m r p → t ≡ release_after m r p → Within m r → ReleaseTold m r p (freed x) t
 release_told m l r p x t a e w = rw (a, e) (told_of m l r p w)

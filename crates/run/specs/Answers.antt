@@ -1,13 +1,18 @@
 -- What an answer says, by kind, value, refusal number and layer, and how answers are counted. Assumes nothing.
 use Rattle.std.specs.Prelude.{ℕ, ◌+◌, Bool, true, false, List, [], ◌∷◌, Ok, Err, Result}
+use Rattle.std.specs.Result.{result_map_both}
 use Rattle.settings.specs.declared.fault.Layer.{Layer}
 use Rattle.settings.specs.declared.fault.RunFault.{RunFault}
 use Rattle.settings.specs.Refusals.{run_number, run_layer}
 use Rattle.run.specs.declared.answer.Touched.{Touched}
 use Rattle.run.specs.declared.answer.Touched.TheVariants as touch
-use Rattle.run.specs.declared.answer.Answer.{Answer}
-use Rattle.run.specs.declared.answer.Answer.TheVariants as answer
+use Rattle.run.specs.declared.answer.Outcome.{Outcome}
+use Rattle.run.specs.declared.answer.Outcome.TheVariants as outcome
 use Rattle.run.specs.declared.answer.Figures.{Figures}
+
+-- what an event is answered, since antt has no name for an alias
+abbrev pub EventAnswer : Type 0
+EventAnswer = Result Outcome RunFault
 
 -- an answer in plain terms
 pub data Told : Type 0 where
@@ -19,21 +24,19 @@ pub data Told : Type 0 where
   -- a refusal's number, and the layer whose check failed
   refused : ℕ → Layer → Told
 
-abbrev pub told : Answer → Told
-told (answer.Touched touch.Hit) = hit
-told (answer.Touched touch.Fault) = fault
-told (answer.Touched (touch.Replaced q)) = replaced q
-told answer.Released = released
-told (answer.Refused f) = refused (run_number f) (run_layer f)
+abbrev pub told : EventAnswer → Told
+told (Ok (outcome.Touched touch.Hit)) = hit
+told (Ok (outcome.Touched touch.Fault)) = fault
+told (Ok (outcome.Touched (touch.Replaced q))) = replaced q
+told (Ok outcome.Released) = released
+told (Err f) = refused (run_number f) (run_layer f)
 
 -- the answer to a touch, and to a release
-abbrev pub touched : Result Touched RunFault → Answer
-touched (Ok t) = answer.Touched t
-touched (Err f) = answer.Refused f
+abbrev pub touched : Result Touched RunFault → EventAnswer
+touched r = result_map_both outcome.Touched (λ f. f) r
 
-abbrev pub freed : Result (Unit {0}) RunFault → Answer
-freed (Ok u) = answer.Released
-freed (Err f) = answer.Refused f
+abbrev pub freed : Result (Unit {0}) RunFault → EventAnswer
+freed r = result_map_both (λ _. outcome.Released) (λ f. f) r
 
 abbrev pub figures : ℕ → ℕ → ℕ → Figures
 figures t f o = record { touches = t; faults = f; outs = o }
@@ -67,10 +70,10 @@ one_if true = 1
 one_if false = 0
 
 -- how many answers are such
-abbrev pub how_many : (Told → Bool) → List Answer → ℕ
+abbrev pub how_many : (Told → Bool) → List EventAnswer → ℕ
 how_many f [] = 0
 how_many f (x ∷ xs) = one_if (f (told x)) + how_many f xs
 
 -- the figures of a list of answers
-abbrev pub counted : List Answer → Figures
+abbrev pub counted : List EventAnswer → Figures
 counted xs = figures (how_many is_touch xs) (how_many is_fault xs) (how_many is_out xs)

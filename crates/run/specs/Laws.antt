@@ -8,13 +8,12 @@ use Rattle.settings.specs.declared.fault.Layer.{Layer}
 use Rattle.settings.specs.declared.fault.Layer.TheVariants as layer
 use Rattle.run.specs.declared.answer.Event.{Event}
 use Rattle.run.specs.declared.answer.Event.TheVariants.{Touch, Release}
-use Rattle.run.specs.declared.answer.Answer.{Answer}
-use Rattle.run.specs.Answers.{hit, fault, replaced, released, refused, told, counted}
+use Rattle.run.specs.Answers.{EventAnswer, hit, fault, replaced, released, refused, told, counted}
 use Rattle.run.specs.Run.{Run, opened, event_answer, event_after, run_after, answers}
 
-module _ (m : Model) where
+module _ {S : Type 0} (m : Model S) where
   -- a well-formed run: its policy is sound, holds no more pages than there are frames, and was told of as many faults as were counted
-  pub record Within (r : Run m.State) : Type 0 where
+  pub record Within (r : Run S) : Type 0 where
     pub sound : Sound m r.policy
     pub some : 1 ≤ r.frames
     pub most : r.frames ≤ 1024
@@ -22,17 +21,18 @@ module _ (m : Model) where
     pub faults_told : m.count r.policy ≡ r.figures.faults
     pub faults_touch : r.figures.faults ≤ r.figures.touches
     pub limited : r.figures.touches ≤ 16000000
+    pub outs_fault : r.figures.outs ≤ r.figures.faults
 
   -- the pages in memory
-  abbrev pub memory : Run m.State → List ℕ
+  abbrev pub memory : Run S → List ℕ
   memory r = m.pages r.policy
 
   -- the policy was told these calls, and nothing else
-  abbrev pub Calls : Run m.State → Run m.State → List Call → Type 0
+  abbrev pub Calls : Run S → Run S → List Call → Type 0
   Calls r t cs = t.policy ≡ after_all m r.policy cs
 
   -- a page q that was in memory goes out, which the policy gave once it was told of the fault, and p comes in
-  pub record Swaps (p : ℕ) (r : Run m.State) (a : Answer) (t : Run m.State) : Type 0 where
+  pub record Swaps (p : ℕ) (r : Run S) (a : EventAnswer) (t : Run S) : Type 0 where
     pub q : ℕ
     pub answered : told a ≡ replaced q
     pub given : m.gives (after m r.policy (calls.fault p)) ≡ Some q
@@ -42,7 +42,7 @@ module _ (m : Model) where
     pub comes : Adds p others (memory t)
 
   -- the answer a and the run t after a touch of p in the run r
-  pub record TouchTold (r : Run m.State) (p : ℕ) (a : Answer) (t : Run m.State) : Type 0 where
+  pub record TouchTold (r : Run S) (p : ℕ) (a : EventAnswer) (t : Run S) : Type 0 where
     -- refused by the run, where p is no page, or else where the touches are used up
     pub no_page : 4096 ≤ p → told a ≡ refused 1 layer.Run
     pub too_many : p < 4096 → 16000000 ≤ r.figures.touches → told a ≡ refused 2 layer.Run
@@ -58,7 +58,7 @@ module _ (m : Model) where
     pub within : Within t
 
   -- the answer a and the run t after a release of p in the run r
-  pub record ReleaseTold (r : Run m.State) (p : ℕ) (a : Answer) (t : Run m.State) : Type 0 where
+  pub record ReleaseTold (r : Run S) (p : ℕ) (a : EventAnswer) (t : Run S) : Type 0 where
     -- refused by the policy, where p is no page, or else where p is not in memory
     pub no_page : 4096 ≤ p → told a ≡ refused 1 layer.Policy
     pub absent : p < 4096 → has p (memory r) ≡ false → told a ≡ refused 7 layer.Policy
@@ -68,17 +68,17 @@ module _ (m : Model) where
     pub frames : t.frames ≡ r.frames
     pub within : Within t
 
-  abbrev pub EventTold : Run m.State → Event → Answer → Run m.State → Type 0
+  abbrev pub EventTold : Run S → Event → EventAnswer → Run S → Type 0
   EventTold r (Touch p) a t = TouchTold r p a t
   EventTold r (Release p) a t = ReleaseTold r p a t
 
   -- for every number of frames, every policy and every trace, from opening on
   pub record RunLaws : Type 0 where
-    pub within : (n : ℕ) (s : m.State) (es : List Event) → 1 ≤ n → n ≤ 1024 → Within (run_after m (opened m n s) es)
+    pub within : (n : ℕ) (s : S) (es : List Event) → 1 ≤ n → n ≤ 1024 → Within (run_after m (opened m n s) es)
     -- at most n pages are in memory
-    pub most : (n : ℕ) (s : m.State) (es : List Event) → 1 ≤ n → n ≤ 1024 → length (memory (run_after m (opened m n s) es)) ≤ n
+    pub most : (n : ℕ) (s : S) (es : List Event) → 1 ≤ n → n ≤ 1024 → length (memory (run_after m (opened m n s) es)) ≤ n
     -- whatever comes next
-    pub next : (n : ℕ) (s : m.State) (es : List Event) (e : Event) → 1 ≤ n → n ≤ 1024 →
+    pub next : (n : ℕ) (s : S) (es : List Event) (e : Event) → 1 ≤ n → n ≤ 1024 →
         let r = run_after m (opened m n s) es in EventTold r e (event_answer m r e) (event_after m r e)
     -- the figures are the counts of the answers
-    pub counts : (n : ℕ) (s : m.State) (es : List Event) → (run_after m (opened m n s) es).figures ≡ counted (answers m (opened m n s) es)
+    pub counts : (n : ℕ) (s : S) (es : List Event) → (run_after m (opened m n s) es).figures ≡ counted (answers m (opened m n s) es)

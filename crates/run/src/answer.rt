@@ -21,16 +21,18 @@ pub enum Touched {
     Replaced(u16),
 }
 
-// What an event came to.
+// What an accepted event came to.
 #[derive(Clone, Copy, PartialEq, Eq, Debug)]
-pub enum Answer {
+pub enum Outcome {
     Touched(Touched),
     Released,
-    Refused(RunFault),
 }
 
+// What an event is answered.
+pub type Answer = Result<Outcome, RunFault>;
+
 // What a run counts: accepted touches, those that were faults, and pages sent out.
-#[derive(Clone, Copy, PartialEq, Eq, Debug)]
+#[derive(Clone, Copy, PartialEq, Eq, Debug, Default)]
 pub struct Figures {
     pub touches: u32,
     pub faults: u32,

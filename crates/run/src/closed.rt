@@ -22,7 +22,6 @@ impl<P: Policy> ClosedRun<P> {
     pub fn into_policy(self) -> P
         ensures { result ≡ self.policy }
     {
-        let ClosedRun { policy, figures: _ } = self;
-        policy
+        self.policy
     }
 }

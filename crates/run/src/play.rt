@@ -1,6 +1,6 @@
 // Whole traces.
 ghost use Rattle.std.specs.Prelude.{◌≡◌, IfOk};
-ghost use Rattle.run.specs.Run.{run_of, opened, run_after, answers};
+ghost use Rattle.run.specs.Run.{opened, run_after, answers};
 ghost use Rattle.run.specs.Answers.{counted};
 ghost use Rattle.run.specs.Laws.{RunLaws};
 
@@ -12,7 +12,7 @@ use std::alloc::{AllocError, Global};
 
 // The answers of a trace, one for each event, and the run after it.
 #[derive(Drop)]
-pub struct Played<P> {
+pub struct Played<P: Policy> {
     pub answers: Vec<Answer>,
     pub run: OpenRun<P>,
 }
@@ -24,16 +24,16 @@ pub fn play<P: Policy + Drop>(
     policy: P,
     events: &[Event],
 ) -> Result<Played<P>, AllocError>
-    ensures answers { IfOk result (λ d. d.answers.items ≡ answers P.model (opened P.model settings.frames (P.standing policy)) events.now) }
-    ensures after { IfOk result (λ d. run_of P.standing d.run ≡ run_after P.model (opened P.model settings.frames (P.standing policy)) events.now) }
+    ensures answers { IfOk result (λ d. d.answers.items ≡ answers P.model (opened P.model settings.frames policy) events.now) }
+    ensures after { IfOk result (λ d. d.run ≡ run_after P.model (opened P.model settings.frames policy) events.now) }
     ensures laws { RunLaws P.model }
     ensures figures { IfOk result (λ d. d.run.figures ≡ counted d.answers.items) }
 {
     let mut answers = Vec::with_capacity(heap, events.len())?;
     let mut run = OpenRun::open(settings, policy);
-    for event in events.iter() {
-        let answer = run.perform(*event);
-        answers.push_reserved(answer);
+    // Not a chain: of a run that a closure changes, the proof would know nothing.
+    for &event in events {
+        answers.push_reserved(run.perform(event));
     }
     Ok(Played { answers, run })
 }

@@ -46,3 +46,8 @@ pub record SettingsTold (n : Numbers) (x : Result Numbers RunFault) : Type 0 whe
   pub made : Ranged n → n.nth ≤ n.long → x ≡ Ok n
   pub out_of_range : (Ranged n → ⊥) → Refused x 3 layer.Run
   pub nth_above : Ranged n → n.long < n.nth → Refused x 4 layer.Run
+
+-- the answer to six numbers that ask to be settings: what the checks say, in both ways of saying it
+pub record AreSettings (n : Numbers) (x : Result Settings RunFault) : Type 0 where
+  pub checks : seen x ≡ checked n
+  pub told : SettingsTold n (seen x)

@@ -39,6 +39,7 @@ impl RunFault {
     pub fn number(self) -> u8
         ensures { result ≡ run_number self }
     {
+        // Not `as u8`, by which the policy's faults are numbered: one variant has a field.
         match self {
             RunFault::NotAPage => 1,
             RunFault::TooManyTouches => 2,

@@ -1,4 +1,5 @@
-// Plays each line of standard input as a text of its own: prints the line behind `> `, and then the lines that it asks for.
+// Plays each line of standard input as a text of its own: prints the line behind `> `, and then the
+// lines that it asks for.
 #![tactic(auto)]
 
 use named_listing::texts::listing;

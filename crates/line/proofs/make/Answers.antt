@@ -1,9 +1,8 @@
-use Rattle.std.proofs.Common.{rules}
-use Rattle.line.proofs.Ages.{loads_or_hits_are, gives_earliest}
+use Rattle.line.proofs.Ages.{line_earliest}
 use Rattle.line.proofs.make.Goals as goal
 
-pub returns-in_err-line : goal.returns-in_err-line
-returns-in_err-line g c = record { opening = search rules; sound = search rules; earliest = gives_earliest g.R.Renewal.renews _ (loads_or_hits_are g.R.Renewal.renews) }
+pub returns-in_err-new-clause-earliest : goal.returns-in_err-new-clause-earliest
+returns-in_err-new-clause-earliest g c = line_earliest g.R.Renewal.renews
 
-pub returns : goal.returns
-returns g c = record { opening = search rules; sound = search rules; earliest = gives_earliest g.R.Renewal.renews _ (loads_or_hits_are g.R.Renewal.renews) }
+pub returns-clause-earliest : goal.returns-clause-earliest
+returns-clause-earliest g c = line_earliest g.R.Renewal.renews

@@ -1,26 +1,25 @@
 // What a page queue tells, as fast with many pages as with few.
-ghost use Rattle.std.specs.Prelude.{◌≡◌, ◌≤◌, length};
-ghost use Rattle.pages.specs.Lists.{has};
-ghost use Rattle.pages.specs.Queue.{pages_of};
+ghost use Rattle.std.specs.Prelude.{◌≡◌, ◌<◌, ◌≤◌, true, length};
+ghost use Rattle.pages.specs.Lists.{has, sound};
 
-use super::{ABSENT, END, PageQueue};
+use super::{END, PageQueue};
 
+#[tactic(auto, using(crate::proofs::Linked::queue_laws))]
 impl PageQueue {
     // How many pages there are.
     pub fn len(&self) -> u16
-        ensures count { result ≡ length (pages_of self.now) }
+        ensures count { result ≡ length self.now }
         ensures few { result ≤ 1024 }
+        ensures fits { sound self.now ≡ true }
     {
         self.len
     }
 
     // Whether a page is in the queue; no number from 4,096 is.
     pub fn contains(&self, page: u32) -> bool
-        ensures { result ≡ has page (pages_of self.now) }
+        ensures found { result ≡ has page self.now }
+        ensures page { result ≡ true → page < 4096 }
     {
-        if page >= END as u32 {
-            return false;
-        }
-        self.next[page as usize] != ABSENT
+        page < END as u32 && self.links[page as usize].next != page as u16
     }
 }

@@ -1,80 +1,84 @@
 // What makes and changes a page queue. Only `clear` takes longer where there are more pages.
-ghost use Rattle.std.specs.Prelude.{◌≡◌, [], ◌∷◌, ◌++◌, IfOk, if◌then◌else◌};
+ghost use Rattle.std.specs.Prelude.{◌≡◌, ◌<◌, true, [], ◌∷◌, ◌++◌, IfOk, IfSome, if◌then◌else◌};
 ghost use Rattle.pages.specs.Lists.{has, without, first, rest, joins};
-ghost use Rattle.pages.specs.Queue.{pages_of};
 
-use super::{ABSENT, END, MOST, PageQueue};
+use super::{END, Link, MOST, PageQueue};
 use std::alloc::{AllocError, Global};
 
+#[tactic(auto, using(crate::proofs::Linked::queue_laws))]
 impl PageQueue {
-    // A queue with no page. This allocates both tables, and nothing else does.
+    // A queue with no page. This allocates the table, and nothing else does.
     pub fn new(heap: Global) -> Result<PageQueue, AllocError>
-        ensures { IfOk result (λ q. pages_of q ≡ []) }
+        ensures { IfOk result (λ q. q ≡ []) }
     {
-        let mut next = vec![in heap; ABSENT; 4097]?;
-        let prev = vec![in heap; END; 4097]?;
-        next[END as usize] = END;
-        Ok(PageQueue { next, prev, len: 0 })
+        let links = (0..=END).map(Link::alone).collect(heap)?;
+        Ok(PageQueue { links, len: 0 })
     }
 
     // Whether a page can join: it is one, it is not there yet, and there is room.
     fn can_join(&self, page: u32) -> bool
-        ensures { result ≡ joins page (pages_of self.now) }
+        ensures { result ≡ joins page self.now }
     {
         page < END as u32 && self.len < MOST && !self.contains(page)
     }
 
     // Puts a page at the end; false, and nothing changes, where it cannot join.
     pub fn push_back(&mut self, page: u32) -> bool
-        ensures joined { result ≡ joins page (pages_of self.old) }
-        ensures pages { pages_of self.new ≡ (if joins page (pages_of self.old) then pages_of self.old ++ page ∷ [] else pages_of self.old) }
+        ensures joined { result ≡ joins page self.old }
+        ensures pages { self.new ≡ (if joins page self.old then self.old ++ page ∷ [] else self.old) }
     {
         if !self.can_join(page) {
             return false;
         }
-        let last = self.prev[END as usize];
-        self.next[last as usize] = page as u16;
-        self.next[page as usize] = END;
-        self.prev[page as usize] = last;
-        self.prev[END as usize] = page as u16;
+        let page = page as u16;
+        let last = self.links[END as usize].prev;
+        self.links[page as usize] = Link {
+            prev: last,
+            next: END,
+        };
+        self.links[last as usize].next = page;
+        self.links[END as usize].prev = page;
         self.len += 1;
         true
     }
 
     // Takes a page out, wherever it stands; false, and nothing changes, where it is not there.
     pub fn remove(&mut self, page: u32) -> bool
-        ensures found { result ≡ has page (pages_of self.old) }
-        ensures pages { pages_of self.new ≡ without page (pages_of self.old) }
+        ensures found { result ≡ has page self.old }
+        ensures page { result ≡ true → page < 4096 }
+        ensures pages { self.new ≡ without page self.old }
+        ensures rejoins { result ≡ true → joins page self.new ≡ true }
     {
         if !self.contains(page) {
             return false;
         }
-        let before = self.prev[page as usize];
-        let after = self.next[page as usize];
-        self.next[before as usize] = after;
-        self.prev[after as usize] = before;
-        self.next[page as usize] = ABSENT;
+        let page = page as u16;
+        let Link { prev, next } = self.links[page as usize];
+        self.links[prev as usize].next = next;
+        self.links[next as usize].prev = prev;
+        self.links[page as usize] = Link::alone(page);
         self.len -= 1;
         true
     }
 
     // Takes the first page out; none where there is none.
     pub fn pop_front(&mut self) -> Option<u16>
-        ensures page { result ≡ first (pages_of self.old) }
-        ensures pages { pages_of self.new ≡ rest (pages_of self.old) }
+        ensures page { result ≡ first self.old }
+        ensures pages { self.new ≡ rest self.old }
+        ensures rejoins { IfSome result (λ p. joins p self.new ≡ true) }
     {
         if self.len == 0 {
             return None;
         }
-        let page = self.next[END as usize];
+        let page = self.links[END as usize].next;
         let _ = self.remove(page as u32);
         Some(page)
     }
 
     // Moves a page to the end; false, and nothing changes, where it is not there.
     pub fn move_to_back(&mut self, page: u32) -> bool
-        ensures found { result ≡ has page (pages_of self.old) }
-        ensures pages { pages_of self.new ≡ (if has page (pages_of self.old) then without page (pages_of self.old) ++ page ∷ [] else pages_of self.old) }
+        ensures found { result ≡ has page self.old }
+        ensures pages { self.new ≡ (if has page self.old then without page self.old ++ page ∷ [] else self.old) }
     {
         if !self.remove(page) {
             return false;
@@ -84,7 +88,7 @@ impl PageQueue {
 
     // Takes every page out.
     pub fn clear(&mut self)
-        ensures { pages_of self.new ≡ [] }
+        ensures { self.new ≡ [] }
     {
         while let Some(_) = self.pop_front() {}
     }

@@ -1,36 +1,30 @@
-// The one call that makes settings.
-ghost use Rattle.std.specs.Prelude.{◌≡◌, ◌&&◌};
-ghost use Rattle.settings.specs.Checks.{seen, checked, in_ranges, within, SettingsTold};
+// The one conversion that makes settings.
+ghost use Rattle.std.specs.Prelude.{◌≡◌};
+ghost use Rattle.settings.specs.Checks.{in_ranges, AreSettings};
 
 use super::Settings;
 use crate::fault::RunFault;
 use crate::numbers::Numbers;
 
-// Whether least ≤ value ≤ most.
-fn between(value: u32, least: u32, most: u32) -> bool
-    ensures { result ≡ within least most value }
-{
-    least <= value && value <= most
-}
-
 // Whether each number lies in its own range; the rank may here be as great as the greatest length.
 fn in_ranges(n: Numbers) -> bool
     ensures { result ≡ in_ranges n }
 {
-    between(n.frames, 1, 1024)
-        && between(n.long, 2, 4096)
-        && between(n.behind, 1, 4095)
-        && between(n.nth, 1, 4096)
-        && between(n.tracked, 1, 200)
-        && between(n.front, 0, 1024)
+    (1..=1024).contains(&n.frames)
+        && (2..=4096).contains(&n.long)
+        && (1..=4095).contains(&n.behind)
+        && (1..=4096).contains(&n.nth)
+        && (1..=200).contains(&n.tracked)
+        && n.front <= 1024
 }
 
-impl Settings {
+impl TryFrom<Numbers> for Settings {
+    type Error = RunFault;
+
+    ghost try_from_gives = { AreSettings };
+
     // Settings of these numbers, or why there are none.
-    pub fn new(n: Numbers) -> Result<Settings, RunFault>
-        ensures seen { seen result ≡ checked n }
-        ensures told { SettingsTold n (seen result) }
-    {
+    fn try_from(n: Numbers) -> Result<Settings, RunFault> {
         if !in_ranges(n) {
             return Err(RunFault::OutOfRange);
         }

@@ -1,6 +1,6 @@
-use Rattle.std.proofs.Common.{◌≡◌, ◌++◌, drop, string_bytes}
+use Rattle.std.proofs.Common.{◌≡◌, ◌++◌, length, drop, string_bytes}
 use Rattle.listing.specs.Listing.{printed}
 use Rattle.listing.proofs.listing.lines.Given as goal
 
-abbrev pub invariant-loop-at : goal.invariant-loop-at
-invariant-loop-at l = string_bytes l.out ++ printed (drop l.at l.pages) (drop l.at l.answers) ≡ printed l.pages l.answers
+abbrev pub invariant-loop-page : goal.invariant-loop-page
+invariant-loop-page l = string_bytes l.out ++ printed (drop (length l.yielded) l.pages) (drop (length l.yielded) l.answers) ≡ printed l.pages l.answers

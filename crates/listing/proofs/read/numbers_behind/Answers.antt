@@ -1,31 +1,21 @@
-use Rattle.std.proofs.Common.{◌≡◌, ℕ, ◌+◌, List, vec_items, Option, sym, refl, ap, ◌∙◌, rules}
-use Rattle.std.proofs.lemmas.Result.{IfOk-from_err}
-use Rattle.listing.proofs.ReadBack.{reads_back_behind, reads_plain_behind}
-use Rattle.listing.proofs.Reading.{rest_gives, grown, parted, bad, ended}
+use Rattle.std.proofs.Common.{ℕ, ◌+◌, length, option_to_list, vec_items, Ok, sym, ◌∙◌, rules}
+use Rattle.std.proofs.lemmas.Iterator.Adapters.{YieldsList-from_once, fact_from_extend}
+use Rattle.listing.proofs.Reading.{Here, all_read, ended, parted, put, turn}
 use Rattle.listing.proofs.read.numbers_behind.Goals as goal
-use Rattle.listing.proofs.read.numbers_behind.Goals.{in-Grown, in-Parted+in_ok-part-in-Parted}
+use Rattle.listing.proofs.read.numbers_behind.Goals.{In-Some}
 
-pub returns-in-Bad : goal.returns-in-Bad
-returns-in-Bad c = record { back = reads_back_behind; plain = reads_plain_behind; found = sym (sym c.loop-at.invariant ∙ bad (vec_items c.loop-at.found) c.loop-at.word c.args.text.now c.loop-at.at c.loop-at-test.true (sym c.in-Bad.ensures)) }
+-- this turn's byte, and its place
+here : (c : In-Some) → Here c.args.text.now c.args.start c.loop-at.yielded (c.in-Some.at, c.in-Some.byte)
+here c = turn c.into_iter-at-iterator.result c.loop-at.at-iterator c.next.new.self _ c.args.text.now c.args.start (cc) (cc) (cc) c.loop-at.yielded c.loop-at.yielded_by (c.in-Some.at, c.in-Some.byte) c.in-Some.is c.next.ensures.steps
 
-same : {xs ys : List ℕ} {v w : Option ℕ} → xs ≡ ys → v ≡ w → (bs : List ℕ) (k : ℕ) → rest_gives xs v bs (k + 1) ≡ rest_gives ys w bs (k + 1)
-same a b bs k = rw (a, b) refl
+pub loop-at-preserved-in_ok-extend : goal.loop-at-preserved-in_ok-extend
+loop-at-preserved-in_ok-extend c =
+    let h = here (goal.at-loop-at-preserved-in_ok-extend c).In-Some in
+    let m = fact_from_extend {E = ℕ} (λ x. x) (Ok c.in_ok-extend.field-0) c.in_ok-extend.ensures.ran (λ it b. YieldsList-from_once c.loop-at.word (b.0 ∙ c.take.ensures.value)) (λ zs e f. put (vec_items c.loop-at.found) (vec_items c.extend.new.self) zs (option_to_list c.loop-at.word) e f.0) in
+    (search rules, search rules, parted h (vec_items c.loop-at.found) c.loop-at.word _ _ (sym c.if-is_space.ensures) m c.take.ensures.after ∙ c.loop-at.invariant.2)
 
-pub loop-at-preserved : goal.loop-at-preserved
-loop-at-preserved c =
-    let xs = vec_items c.loop-at.found in
-    let bs = c.args.text.now in
-    let k = c.loop-at.at in
-    elim c.match-step.branch [
-      | in-Grown w ↦ same (ap vec_items w.found-is) w.word-is bs k ∙ grown xs c.loop-at.word bs k w.in-Grown.n c.loop-at-test.true (sym w.in-Grown.ensures) ∙ c.loop-at.invariant
-      | in-Parted+in_ok-part-in-Parted w ↦ same (ap vec_items w.found-is) w.word-is bs k ∙ parted xs c.loop-at.word bs k _ c.loop-at-test.true (sym w.in-Parted.ensures) w.in_ok-part-in-Parted.ensures ∙ c.loop-at.invariant
-    ]
-
-pub returns-in_err-part : goal.returns-in_err-part
-returns-in_err-part c = record { back = reads_back_behind; plain = reads_plain_behind; found = search (rules, IfOk-from_err) }
-
-pub returns-in_err-part-in-Parted : goal.returns-in_err-part-in-Parted
-returns-in_err-part-in-Parted c = record { back = reads_back_behind; plain = reads_plain_behind; found = search (rules, IfOk-from_err) }
-
-pub returns : goal.returns
-returns c = record { back = reads_back_behind; plain = reads_plain_behind; found = sym (sym c.loop-at.invariant ∙ ended (vec_items c.loop-at.found) c.loop-at.word c.args.text.now c.loop-at.at _ c.loop-at-test.false c.in_ok-part.ensures) }
+pub returns-clause-found : goal.returns-clause-found
+returns-clause-found c =
+    let l = all_read c.into_iter-at-iterator.result c.loop-at.at-iterator c.next.new.self _ c.args.text.now c.args.start (cc) (cc) (cc) c.loop-at.yielded c.loop-at.yielded_by c.in-None.is c.next.ensures.steps in
+    let m = fact_from_extend {E = ℕ} (λ x. x) (Ok c.in_ok-extend-2.field-0) c.in_ok-extend-2.ensures.ran (λ it b. YieldsList-from_once c.loop-at.word b.0) (λ zs e f. put (vec_items c.loop-at.found) (vec_items c.extend-2.new.self) zs (option_to_list c.loop-at.word) e f.0) in
+    sym c.loop-at.invariant.2 ∙ ended (vec_items c.loop-at.found) c.loop-at.word c.args.text.now (c.args.start + length c.loop-at.yielded) _ l m

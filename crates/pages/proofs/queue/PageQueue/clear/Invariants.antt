@@ -1,6 +1,5 @@
 use Rattle.std.proofs.Common.{length}
-use Rattle.pages.specs.Queue.{pages_of}
 use Rattle.pages.proofs.queue.PageQueue.clear.Given as goal
 
 abbrev pub decreases-loop : goal.decreases-loop
-decreases-loop l = length (pages_of l.self)
+decreases-loop l = length l.self

@@ -1,14 +1,11 @@
-use Rattle.std.proofs.Common.{sym, subst, rules}
-use Rattle.run.specs.Answers.{figures}
-use Rattle.run.specs.Laws.{Within}
-use Rattle.run.proofs.Touches.{opened_within}
+use Rattle.std.proofs.Common.{rules}
+use Rattle.run.proofs.Touches.{open_is_run}
 use Rattle.run.proofs.open.OpenRun.open.Goals as goal
 
-pub returns : goal.returns
-returns g c =
-    let m = g.P.Policy.model in
-    record {
-      opened = search rules;
-      within = subst (λ (s : m.State). Within m (record { frames = c.args.settings.frames; policy = s; figures = figures 0 0 0 })) (sym c.clear.ensures)
-          (opened_within m g.met.P.Policy.laws c.args.settings.frames (g.P.Policy.standing c.args.policy) c.args.settings.frames_least c.args.settings.frames_most);
-    }
+pub invariant_of-result : goal.invariant_of-result
+invariant_of-result g c =
+    let s = c.args.settings in
+    open_is_run g.P.Policy.model g.met.P.Policy.laws s.frames c.args.policy _ (search rules) s.frames_least s.frames_most
+
+pub returns-clause-within : goal.returns-clause-within
+returns-clause-within g c = invariant_of-result g c
