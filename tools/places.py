@@ -48,25 +48,30 @@ def clauses():
     return [f'{n}  {clause}' for clause, n in found.items() if n > 2]
 
 
-COUNTS = [
-    ('1 enums', lambda: matching(r'\benum \w')),
-    ('1 results of results, options of options', lambda: matching(r'(Result|Option)<(Result|Option)<')),
-    ('1 numbers for kinds', lambda: matching(r'-> u8|const ABSENT')),
-    ('2 functions of one name in two crates', named_twice),
-    ('2 pairs that check a page', lambda: matching(r'fn check_\w+')),
-    ('3 loops over a range', lambda: matching(r'\bfor .* in .*\.\.')),
-    ('3 other loops', lambda: [x for x in matching(r'\bfor .* in |\bwhile\b|\bloop\b') if 'impl' not in x and '..' not in x.split('  ')[1]]),
-    ('4 matches that only hand a case on', lambda: matching(r'(Some\((\w+)\) => Some\(\2\)|Ok\((\w+)\) => Ok\(\3\)|Ok\(\(\)\) => Ok\(\(\)\))')),
-    ('4 text put together by format!', lambda: matching(r'format!')),
-    ('4 conversions that are no impl of From or TryFrom', lambda: matching(r'fn policy_named|fn new\(n: Numbers\)')),
-    ('5 clauses of three functions or more', clauses),
-    ('5 settings and pages handed on together', lambda: matching(r'^pages: &\[u32\],|settings: Settings, pages')),
-    ('6 fields that are tables', lambda: matching(r'^(pub )?\w+: Vec<')),
-    ('7 steps chosen by a flag or a name', lambda: matching(r'match name|if self\.renewal')),
-]
+def other_loops():
+    return [x for x in matching(r'\bfor .* in |\bwhile\b|\bloop\b') if 'impl' not in x and '..' not in x.split('  ')[1]]
 
-for title, places in COUNTS:
-    found = places()
+
+# What is counted: lines that have a pattern, or the places that a function finds.
+COUNTS = {
+    '1 enums': r'\benum \w',
+    '1 results of results, options of options': r'(Result|Option)<(Result|Option)<',
+    '1 numbers for kinds': r'-> u8|const ABSENT',
+    '2 functions of one name in two crates': named_twice,
+    '2 pairs that check a page': r'fn check_\w+',
+    '3 loops over a range': r'\bfor .* in .*\.\.',
+    '3 other loops': other_loops,
+    '4 matches that only hand a case on': r'(Some\((\w+)\) => Some\(\2\)|Ok\((\w+)\) => Ok\(\3\)|Ok\(\(\)\) => Ok\(\(\)\))',
+    '4 text put together by format!': r'format!',
+    '4 conversions that are no impl of From or TryFrom': r'fn policy_named|fn new\(n: Numbers\)',
+    '5 clauses of three functions or more': clauses,
+    '5 settings and pages handed on together': r'^pages: &\[u32\],|settings: Settings, pages',
+    '6 fields that are tables': r'^(pub )?\w+: Vec<',
+    '7 steps chosen by a flag or a name': r'match name|if self\.renewal',
+}
+
+for title, sought in COUNTS.items():
+    found = matching(sought) if isinstance(sought, str) else sought()
     print(f'{title}: {len(found)}')
     for place in found:
         print(f'    {place}')
