@@ -18,7 +18,7 @@ reached_push p [] = refl
 reached_push p ((q, true) ∷ xs) = reached_push p xs
 reached_push p ((q, false) ∷ xs) = refl
 
-turned_push : (p : ℕ) (xs : Ring) → turned (xs ++ (p, false) ∷ []) ≡ turned ((p, true) ∷ xs)
+pub turned_push : (p : ℕ) (xs : Ring) → turned (xs ++ (p, false) ∷ []) ≡ turned ((p, true) ∷ xs)
 turned_push p xs = rw (reached_push p xs, front_push p xs) (append_assoc (from_unmarked xs) ((p, false) ∷ []) (unmarked (marked_front xs)))
 
 -- the marks of a ring
@@ -50,8 +50,11 @@ module _ (ms : List Bool) where
   marked_hit p [] l = refl
   marked_hit p (q ∷ ps) l = let ih = marked_hit p ps l in grind (arith, nat_tests, get_or-set_same, get_or-set_other)
 
+  marked_put : (p : ℕ) (ps : List ℕ) → p < length ms → has p ps ≡ false → marked_by (set ms p false) (ps ++ p ∷ []) ≡ marked_by ms ps ++ (p, false) ∷ []
+  marked_put p ps l h = grind (arith, nat_tests, get_or-set_same, marked_other, map_push)
+
   pub marked_push : (p : ℕ) (ps : List ℕ) → 4096 ≤ length ms → joins p ps ≡ true → marked_by (set ms p false) (ps ++ p ∷ []) ≡ marked_by ms ps ++ (p, false) ∷ []
-  marked_push p ps l j = grind (arith, nat_tests, get_or-set_same, marked_other, map_push)
+  marked_push p ps l j = marked_put p ps (grind (arith, nat_tests)) (grind (arith, nat_tests))
 
   -- the first page, marked, goes from the front to the end and loses its mark: a turn comes to the same, and a mark less is left
   pub passed : (p : ℕ) (ps : List ℕ) → 4096 ≤ length ms → Some p ≡ first ps → joins p (rest ps) ≡ true → true ≡ get_or ms p true →

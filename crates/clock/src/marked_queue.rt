@@ -1,6 +1,6 @@
 // Pages in an order, each with a mark: the ring of CLOCK.
 ghost use Rattle.std.specs.Prelude.{◌≡◌, ◌≤◌, true, [], length, IfOk};
-ghost use Rattle.pages.specs.Lists.{sound};
+ghost use Rattle.pages.specs.Lists.{QueuePages, sound};
 ghost use Rattle.policy.specs.Model.{capped};
 ghost use Rattle.clock.specs.Ring.{pages_in, ring};
 ghost use Rattle.clock.specs.RingLaws.{ring_lawful};
@@ -46,6 +46,8 @@ impl MarkedQueue {
 impl PageOrder for MarkedQueue {
     ghost orders = { ring };
 
+    ghost known = { λ xs. QueuePages (pages_in xs) };
+
     ghost laws = { ring_lawful };
 
     fn clear(&mut self) {
@@ -70,6 +72,8 @@ impl PageOrder for MarkedQueue {
 
     // Marked pages in front go to the end, unmarked, until an unmarked one is in front.
     fn take(&mut self) -> Option<u16> {
+        // A look at the length, from which on it is known what every ring keeps.
+        let _ = self.len();
         while let Some(page) = self.queue.pop_front() {
             if !mem::take(&mut self.marks[page as usize]) {
                 return Some(page);
@@ -87,6 +91,7 @@ impl PageOrder for MarkedQueue {
         ensures count { result ≡ capped (length (pages_in self.now)) }
         ensures few { length (pages_in self.now) ≤ 1024 }
         ensures fits { sound (pages_in self.now) ≡ true }
+        ensures known { QueuePages (pages_in self.now) }
     {
         self.queue.len()
     }

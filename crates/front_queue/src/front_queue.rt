@@ -79,6 +79,8 @@ impl<P: Policy> FrontQueue<P> {
 impl<P: Policy> Policy for FrontQueue<P> {
     ghost model = { fronted P.Policy.model };
 
+    ghost known = { λ s. (length s.front ≤ s.size) × (s.size ≤ 1024) × (sound s.front ≡ true) × P.Policy.known s.below };
+
     ghost laws = { front_lawful P.Policy.model P.Policy.laws };
 
     fn clear(&mut self) {
@@ -122,6 +124,8 @@ impl<P: Policy> Policy for FrontQueue<P> {
     }
 
     fn give(&mut self) -> Option<u16> {
+        // A look at the length, from which on it is known what every queue keeps.
+        let _ = self.queue.len();
         // Not by `or_else`: its contract says nothing of a closure that is not called, so the
         // proof would lose what stands in the queue.
         match self.below.give() {
@@ -139,6 +143,7 @@ impl<P: Policy> Policy for FrontQueue<P> {
         ensures few { length self.now.front ≤ self.now.size }
         ensures most { self.now.size ≤ 1024 }
         ensures fits { sound self.now.front ≡ true }
+        ensures known { (length self.now.front ≤ self.now.size) × (self.now.size ≤ 1024) × (sound self.now.front ≡ true) × P.known self.now.below }
     {
         let front = self.queue.len();
         let below = self.below.len();

@@ -1,7 +1,7 @@
 // Pages in a line: one that comes in joins the end, and so does one that is hit, where hits renew.
 // The first goes first.
 ghost use Rattle.std.specs.Prelude.{◌≡◌, ℕ, ◌≤◌, true, List, [], length, IfOk};
-ghost use Rattle.pages.specs.Lists.{sound};
+ghost use Rattle.pages.specs.Lists.{QueuePages, sound};
 ghost use Rattle.policy.specs.Model.{capped};
 ghost use Rattle.line.specs.Line.{line};
 ghost use Rattle.line.specs.LineLaws.{line_lawful};
@@ -39,6 +39,8 @@ impl<R: Renewal + Drop> Line<R> {
 impl<R: Renewal> PageOrder for Line<R> {
     ghost orders = { line R.Renewal.renews };
 
+    ghost known = { QueuePages };
+
     ghost laws = { line_lawful R.Renewal.renews };
 
     fn clear(&mut self) {
@@ -62,6 +64,8 @@ impl<R: Renewal> PageOrder for Line<R> {
     }
 
     fn take(&mut self) -> Option<u16> {
+        // A look at the length, from which on it is known what every line keeps.
+        let _ = self.len();
         self.queue.pop_front()
     }
 
@@ -73,6 +77,7 @@ impl<R: Renewal> PageOrder for Line<R> {
         ensures count { result ≡ capped (length self.now) }
         ensures few { length self.now ≤ 1024 }
         ensures fits { sound self.now ≡ true }
+        ensures known { QueuePages self.now }
     {
         self.queue.len()
     }

@@ -2,7 +2,7 @@
 ghost use Rattle.std.specs.Prelude.{Some};
 ghost use Rattle.listing.specs.Lines.{answer_line, end_line};
 
-use run::answer::{Answer, Figures, Outcome, Touched};
+use run::answer::{Answer, Figures, Outcome};
 use std::fmt;
 
 // The answer to an event of a page, with its line end. An accepted release prints nothing.
@@ -17,9 +17,9 @@ impl fmt::Display for Line {
 
     fn fmt<W: fmt::Write>(&self, f: &mut fmt::Formatter<W>) -> fmt::Result {
         match self.answer {
-            Ok(Outcome::Touched(Touched::Hit)) => writeln!(f, "h {}", self.page),
-            Ok(Outcome::Touched(Touched::Fault)) => writeln!(f, "f {}", self.page),
-            Ok(Outcome::Touched(Touched::Replaced(out))) => writeln!(f, "f {} {out}", self.page),
+            Ok(Outcome::Hit) => writeln!(f, "h {}", self.page),
+            Ok(Outcome::Fault) => writeln!(f, "f {}", self.page),
+            Ok(Outcome::Replaced(out)) => writeln!(f, "f {} {out}", self.page),
             Ok(Outcome::Released) => Ok(()),
             Err(fault) => writeln!(f, "no {}", fault.number()),
         }

@@ -3,7 +3,7 @@ ghost use Rattle.std.specs.Prelude.{◌≡◌};
 ghost use Rattle.listing.specs.Numbers.{Finds, ReadsBack, ReadsBackBehind, ReadsPlain, ReadsPlainBehind, grown, is_space, numbers_behind, numbers_in};
 
 use crate::fault::{BadByte, TextFault};
-use std::alloc::Global;
+use std::alloc::{AllocError, Global};
 
 // A space, a line end, a carriage return or a tab.
 pub fn is_space(byte: u8) -> bool
@@ -29,14 +29,20 @@ pub fn numbers_behind(heap: Global, text: &[u8], start: usize) -> Result<Vec<u32
 {
     let mut found = Vec::new(heap);
     let mut word = None;
-    for (at, byte) in text.iter().enumerate().skip(start) {
+    let rest = text.get(start..).unwrap_or_default();
+    for (ahead, byte) in rest.iter().enumerate() {
         if is_space(*byte) {
-            found.extend(word.take())?;
+            if let Some(number) = word {
+                found.push(number).map_err(AllocError::from)?;
+                word = None;
+            }
         } else {
-            word = Some(grown(word, *byte).ok_or(BadByte { at })?);
+            word = Some(grown(word, *byte).ok_or(BadByte { at: start + ahead })?);
         }
     }
-    found.extend(word)?;
+    if let Some(number) = word {
+        found.push(number).map_err(AllocError::from)?;
+    }
     Ok(found)
 }
 

@@ -1,13 +1,11 @@
 -- The first word of a text, and the policy that it names. Assumes nothing.
-use Rattle.std.proofs.Common.{◌≡◌, ℕ, ◌≤◌, cond, nat_lt, not, true, false, eqb, List, [], ◌∷◌, take, Some, None, Option, sym, refl, ◌∙◌, length, unwrap_or, inl, inr, arith}
+use Rattle.std.proofs.Common.{◌≡◌, ℕ, ◌≤◌, cond, nat_lt, not, true, false, eqb, List, [], ◌∷◌, take, Some, None, Option, sym, refl, length, inl, inr}
 use Rattle.std.proofs.lemmas.Bool.{cases_Bool, eqb-true, and_parts, true≢false}
 use Rattle.named_listing.specs.declared.name.PolicyName.{PolicyName}
 use Rattle.named_listing.specs.declared.name.PolicyName.TheVariants.{Fifo, Lru, Clock}
-use Rattle.std.proofs.lemmas.Bool.Decides.{nat_tests}
 use Rattle.std.proofs.lemmas.List.Recursion.{is_position_or_len}
 use Rattle.std.proofs.lemmas.List.Sums.{prefix_len-le-length}
 use Rattle.std.specs.Prelude.{position}
-use Rattle.std.specs.List.{position_or_len}
 use Rattle.listing.specs.declared.fault.TextFault.TheVariants.{NoPolicy}
 use Rattle.listing.specs.Faults.{fault_line}
 use Rattle.listing.specs.Numbers.{is_space}
@@ -33,9 +31,8 @@ names_none w n = let a = other w Fifo (n Fifo) in let b = other w Lru (n Lru) in
 pub no_policy : (bs w : List ℕ) (n : ℕ) → n ≡ word_end bs → w ≡ take n bs → ((p : PolicyName) → w ≡ name_of p → ⊥) → listing_of bs ≡ fault_line NoPolicy
 no_policy bs w n e i h = rw (← e, ← i, names_none w h) refl
 
--- a place found, and the end of the text where there is none
-found_or_end : (n l : ℕ) → n ≤ l → unwrap_or (cond (nat_lt n l) (Some n) None) l ≡ n
-found_or_end n l h = grind (arith, nat_tests)
-
-pub word_ends : (bs : List ℕ) (r : Option ℕ) → r ≡ position is_space bs → unwrap_or r (length bs) ≡ word_end bs
-word_ends bs r e = rw e (found_or_end (position_or_len is_space bs) (length bs) (prefix_len-le-length (λ x. not (is_space x)) bs)) ∙ sym (is_position_or_len word_end is_space refl (λ x xs. refl) bs)
+-- the first word ends within the text, at the first white space where there is one
+pub word_ends : (bs : List ℕ) (r : Option ℕ) → r ≡ position is_space bs → (word_end bs ≤ length bs) × (r ≡ cond (nat_lt (word_end bs) (length bs)) (Some (word_end bs)) None)
+word_ends bs r e =
+    let i = is_position_or_len word_end is_space refl (λ x xs. refl) bs in
+    rw i (prefix_len-le-length (λ x. not (is_space x)) bs, e)

@@ -9,6 +9,9 @@ pub trait PageOrder {
     // What the order means, whose values are the orders.
     ghost orders: { OrderModel Self };
 
+    // What is known of every value; nothing, where an order says nothing of its own.
+    ghost known: { Self → Type 0 } = { λ _. Unit {0} };
+
     // Lets every page go.
     fn clear(&mut self)
         ensures { self.new ≡ orders.empty };
@@ -28,14 +31,16 @@ pub trait PageOrder {
     // Lets the page go that the order puts first.
     fn take(&mut self) -> Option<u16>
         ensures page { result ≡ orders.takes self.old }
-        ensures after { self.new ≡ orders.on_take self.old };
+        ensures after { self.new ≡ orders.on_take self.old }
+        ensures known { known self.old };
 
     fn contains(&self, page: u32) -> bool
         ensures { result ≡ has page (orders.pages self.now) };
 
     // How many pages there are, counted up to 1,024.
     fn len(&self) -> u16
-        ensures { result ≡ capped (length (orders.pages self.now)) };
+        ensures count { result ≡ capped (length (orders.pages self.now)) }
+        ensures known { known self.now };
 
     ghost laws: { LawfulOrder orders };
 }

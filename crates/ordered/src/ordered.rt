@@ -43,6 +43,8 @@ impl<O: PageOrder> Ordered<O> {
 impl<O: PageOrder> Policy for Ordered<O> {
     ghost model = { ordered O.orders };
 
+    ghost known = { λ s. (s.faults ≤ 16000000) × O.PageOrder.known s.order };
+
     ghost laws = { Prim.search rules };
 
     fn clear(&mut self) {

@@ -17,7 +17,7 @@ walk_chained ns a (x ∷ xs) b f =
     let ih = walk_chained ns x xs b (grind (arith, nat_tests)) in rw (e, ih)
 
 -- a table with one entry written
-link_set : (ns : List ℕ) (a v q : ℕ) → a < length ns → link (set ns a v) q ≡ cond (eqb q a) v (link ns q)
+pub link_set : (ns : List ℕ) (a v q : ℕ) → a < length ns → link (set ns a v) q ≡ cond (eqb q a) v (link ns q)
 link_set ns a v q l = elim (cases_eq q a) [
   | inl e ↦ let k = get_or-set_same ns a v 0 l in grind (arith, nat_tests)
   | inr n ↦ let k = get_or-set_other ns a q v 0 n in grind (arith, nat_tests)

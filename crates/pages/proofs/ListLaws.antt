@@ -1,5 +1,5 @@
 -- What holds of lists of pages: of the tests, and of a page that joins or leaves. Assumes nothing.
-use Rattle.std.proofs.Common.{◌≡◌, ℕ, ◌+◌, ◌<◌, ◌≤◌, true, false, not, ◌&&◌, ◌||◌, eqb, List, [], ◌∷◌, ◌++◌, length, Some, refl, inl, inr, arith}
+use Rattle.std.proofs.Common.{◌≡◌, ℕ, ◌+◌, ◌<◌, ◌≤◌, true, false, not, ◌&&◌, ◌||◌, eqb, List, [], ◌∷◌, ◌++◌, length, Some, None, refl, inl, inr, arith}
 use Rattle.std.proofs.lemmas.Bool.{cases_Bool}
 use Rattle.std.proofs.lemmas.List.{length_push}
 use Rattle.std.proofs.lemmas.Bool.Decides.{nat_tests}
@@ -14,6 +14,10 @@ has_small q (x ∷ xs) s h =
 -- what is no page stands in no sound list
 pub has_large : (q : ℕ) (xs : List ℕ) → sound xs ≡ true → 4096 ≤ q → has q xs ≡ false
 has_large q xs s l = let h : has q xs ≡ true → q < 4096 = has_small q xs s in grind (arith, nat_tests)
+
+pub first_none : (xs : List ℕ) → first xs ≡ None → xs ≡ []
+first_none [] h = refl
+first_none (x ∷ xs) h = cc
 
 -- p joins at the end
 

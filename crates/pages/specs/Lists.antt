@@ -1,5 +1,5 @@
 -- Lists of pages: which stand in one, and how one list comes from another. Assumes nothing.
-use Rattle.std.specs.Prelude.{◌≡◌, ℕ, ◌+◌, ◌<◌, Bool, true, false, cond, not, ◌&&◌, ◌||◌, List, [], ◌∷◌, length, Some, None, Option, ◌==◌, nat_lt}
+use Rattle.std.specs.Prelude.{◌≡◌, ℕ, ◌+◌, ◌<◌, ◌≤◌, Bool, true, false, cond, not, ◌&&◌, ◌||◌, List, [], ◌∷◌, length, Some, None, Option, ◌==◌, nat_lt}
 
 -- whether page q stands in the list
 abbrev pub has : ℕ → List ℕ → Bool
@@ -10,6 +10,10 @@ has q (x ∷ xs) = x == q || has q xs
 abbrev pub sound : List ℕ → Bool
 sound [] = true
 sound (x ∷ xs) = nat_lt x 4096 && (not (has x xs) && sound xs)
+
+-- a list that a queue can have: distinct pages, at most 1,024
+abbrev pub QueuePages : List ℕ → Type 0
+QueuePages xs = (length xs ≤ 1024) × (sound xs ≡ true)
 
 -- the list without the first p, the others in their order
 abbrev pub without : ℕ → List ℕ → List ℕ

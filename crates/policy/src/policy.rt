@@ -10,6 +10,9 @@ pub trait Policy {
     // What the policy means, whose values are its standings.
     ghost model: { Model Self };
 
+    // What is known of every value; nothing, where a policy says nothing of its own.
+    ghost known: { Self → Type 0 } = { λ _. Unit {0} };
+
     // Lets every page and the count go.
     fn clear(&mut self)
         ensures { self.new ≡ after model self.old clear };
@@ -40,7 +43,8 @@ pub trait Policy {
     // Chooses a held page, lets it go and answers it; none where no page is held.
     fn give(&mut self) -> Option<u16>
         ensures page { result ≡ model.gives self.old }
-        ensures after { self.new ≡ after model self.old give };
+        ensures after { self.new ≡ after model self.old give }
+        ensures known { known self.old };
 
     // Whether a page is held.
     fn holds(&self, page: u32) -> bool
@@ -48,7 +52,8 @@ pub trait Policy {
 
     // How many pages are held, counted up to 1,024: no policy holds more.
     fn len(&self) -> u16
-        ensures { result ≡ capped (length (model.pages self.now)) };
+        ensures count { result ≡ capped (length (model.pages self.now)) }
+        ensures known { known self.now };
 
     // How many faults were accepted.
     fn faults(&self) -> u32

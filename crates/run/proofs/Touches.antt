@@ -13,10 +13,9 @@ use Rattle.settings.specs.declared.fault.RunFault.{RunFault}
 use Rattle.settings.specs.declared.fault.RunFault.TheVariants as refusals
 use Rattle.run.specs.declared.answer.Touched.{Touched}
 use Rattle.run.specs.declared.answer.Touched.TheVariants.{Hit, Fault, Replaced}
-use Rattle.run.specs.declared.answer.Outcome.TheVariants as outcome
 use Rattle.run.specs.declared.answer.Figures.{Figures}
 use Rattle.run.specs.Answers as say
-use Rattle.run.specs.Answers.{told, touched, figures}
+use Rattle.run.specs.Answers.{outcome_of, told, touched, figures}
 use Rattle.run.specs.Run.{Run, run, opened, up, fault_with, count_hit, count_fault, sent_out, with_room, faulted, out, ready, by_checks, touch_answer, touch_after}
 use Rattle.run.specs.Laws.{Within, memory, Swaps, TouchTold}
 
@@ -48,7 +47,7 @@ count_outs None n h = omega arith
 count_outs (Some q) n h = omega arith
 
 -- an accepted touch is told as no refusal
-never_refused : (t : Touched) (f : ℕ) (l : Layer) → told (Ok (outcome.Touched t)) ≡ say.refused f l → ⊥
+never_refused : (t : Touched) (f : ℕ) (l : Layer) → told (Ok (outcome_of t)) ≡ say.refused f l → ⊥
 never_refused Hit f l e = cc
 never_refused Fault f l e = cc
 never_refused (Replaced q) f l e = cc
@@ -230,7 +229,7 @@ module _ {S : Type 0} (m : Model S) (l : Lawful m) where
               comes = comes;
             }
 
-    touch_within : Within m (touch_after m r p)
+    pub touch_within : Within m (touch_after m r p)
     touch_within = by_way m r p _ (λ a. subst (Within m) (sym (no_page_after a)) w) (λ a b. subst (Within m) (sym (many_after a b)) w) hit_within fault_within
 
     -- no touch changes the frames

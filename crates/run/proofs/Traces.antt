@@ -13,9 +13,8 @@ use Rattle.run.specs.declared.answer.Event.TheVariants.{Touch, Release}
 use Rattle.run.specs.declared.answer.Touched.{Touched}
 use Rattle.run.specs.declared.answer.Touched.TheVariants.{Hit}
 use Rattle.run.specs.declared.answer.Outcome.{Outcome}
-use Rattle.run.specs.declared.answer.Outcome.TheVariants as outcome
 use Rattle.run.specs.declared.answer.Figures.{Figures}
-use Rattle.run.specs.Answers.{EventAnswer, told, touched, freed, figures, is_touch, is_fault, is_out, one_if, how_many, counted}
+use Rattle.run.specs.Answers.{EventAnswer, outcome_of, told, touched, freed, figures, is_touch, is_fault, is_out, one_if, how_many, counted}
 use Rattle.run.specs.Run.{Run, opened, up, fault_with, count_fault, out, ready, hit_answer, hit_after, fault_answer, fault_after, touch_answer, touch_after, release_answer, event_answer, event_after, run_after, answers}
 use Rattle.run.specs.Laws.{Within, EventTold, RunLaws}
 use Rattle.run.proofs.Touches.{opened_within, touch_told}
@@ -47,12 +46,12 @@ loaded_counts n (Some q) = refl
 
 module _ {S : Type 0} (m : Model S) (r : Run S) (p : ℕ) where
   hit_counts : (hit_after m r p).figures ≡ plus r.figures (touched (hit_answer m r p))
-  hit_counts = unless_counts r.figures outcome.Touched (refusal m r.policy (hit p)) r _ (Ok Hit) refl (figures_are _ _ _ _ refl (omega arith) (omega arith))
+  hit_counts = unless_counts r.figures outcome_of (refusal m r.policy (hit p)) r _ (Ok Hit) refl (figures_are _ _ _ _ refl (omega arith) (omega arith))
 
   fault_counts : (fault_after m r p).figures ≡ plus r.figures (touched (fault_answer m r p))
   fault_counts =
-      unless_counts r.figures outcome.Touched (refusal m r.policy (fault p)) r _ _ refl
-      (unless_counts r.figures outcome.Touched (refusal m (ready m r p) (load p)) _ _ (Ok (fault_with (out m r p))) refl (loaded_counts r.figures (out m r p)))
+      unless_counts r.figures outcome_of (refusal m r.policy (fault p)) r _ _ refl
+      (unless_counts r.figures outcome_of (refusal m (ready m r p) (load p)) _ _ (Ok (fault_with (out m r p))) refl (loaded_counts r.figures (out m r p)))
 
   touch_counts : (touch_after m r p).figures ≡ plus r.figures (touched (touch_answer m r p))
   touch_counts =

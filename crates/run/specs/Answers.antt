@@ -25,15 +25,21 @@ pub data Told : Type 0 where
   refused : ℕ → Layer → Told
 
 abbrev pub told : EventAnswer → Told
-told (Ok (outcome.Touched touch.Hit)) = hit
-told (Ok (outcome.Touched touch.Fault)) = fault
-told (Ok (outcome.Touched (touch.Replaced q))) = replaced q
+told (Ok outcome.Hit) = hit
+told (Ok outcome.Fault) = fault
+told (Ok (outcome.Replaced q)) = replaced q
 told (Ok outcome.Released) = released
 told (Err f) = refused (run_number f) (run_layer f)
 
+-- the outcome of an accepted touch
+abbrev pub outcome_of : Touched → Outcome
+outcome_of touch.Hit = outcome.Hit
+outcome_of touch.Fault = outcome.Fault
+outcome_of (touch.Replaced q) = outcome.Replaced q
+
 -- the answer to a touch, and to a release
 abbrev pub touched : Result Touched RunFault → EventAnswer
-touched r = result_map_both outcome.Touched (λ f. f) r
+touched r = result_map_both outcome_of (λ f. f) r
 
 abbrev pub freed : Result (Unit {0}) RunFault → EventAnswer
 freed r = result_map_both (λ _. outcome.Released) (λ f. f) r

@@ -1,7 +1,7 @@
 // A run that takes touches.
-ghost use Rattle.std.specs.Prelude.{◌≡◌, ◌<◌, ◌≤◌};
+ghost use Rattle.std.specs.Prelude.{◌≡◌, ◌<◌, ◌≤◌, length};
 ghost use Rattle.run.specs.Run.{opened, hit_answer, hit_after, fault_answer, fault_after, touch_answer, touch_after, release_answer, release_after, event_answer, event_after, sent_out, with_room};
-ghost use Rattle.run.specs.Laws.{Within, TouchTold, ReleaseTold, EventTold};
+ghost use Rattle.run.specs.Laws.{Within, memory, TouchTold, ReleaseTold, EventTold};
 ghost use Rattle.run.specs.Answers.{touched, freed};
 
 use crate::answer::{Answer, Event, Figures, Outcome, Touched};
@@ -54,6 +54,7 @@ impl<P: Policy> OpenRun<P> {
         ensures answer { result ≡ touch_answer P.model self.old page }
         ensures after { self.new ≡ touch_after P.model self.old page }
         ensures told { TouchTold P.model self.old page (touched result) self.new }
+        ensures within { Within P.model self.old }
     {
         // Read first, since a run's invariant is known from the first look at a field on.
         let touches = self.figures.touches;
@@ -75,6 +76,7 @@ impl<P: Policy> OpenRun<P> {
         ensures answer { result ≡ release_answer P.model self.old page }
         ensures after { self.new ≡ release_after P.model self.old page }
         ensures told { ReleaseTold P.model self.old page (freed result) self.new }
+        ensures within { Within P.model self.old }
     {
         self.policy.drop(page)?;
         Ok(())
@@ -85,14 +87,24 @@ impl<P: Policy> OpenRun<P> {
         ensures answer { result ≡ event_answer P.model self.old event }
         ensures after { self.new ≡ event_after P.model self.old event }
         ensures told { EventTold P.model self.old event result self.new }
+        ensures within { Within P.model self.old }
     {
         match event {
-            Event::Touch(page) => Ok(Outcome::Touched(self.touch(page)?)),
+            Event::Touch(page) => Ok(self.touch(page)?.into()),
             Event::Release(page) => {
                 self.release(page)?;
                 Ok(Outcome::Released)
             }
         }
+    }
+
+    // How many pages are in memory.
+    pub fn pages_in_memory(&self) -> u16
+        ensures count { result ≡ length (memory P.model self.now) }
+        ensures within { Within P.model self.now }
+        ensures known { P.known self.now.policy }
+    {
+        self.policy.len()
     }
 
     // Ends the run.

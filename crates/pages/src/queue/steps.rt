@@ -11,7 +11,7 @@ impl PageQueue {
     pub fn new(heap: Global) -> Result<PageQueue, AllocError>
         ensures { IfOk result (λ q. q ≡ []) }
     {
-        let links = (0..=END).map(Link::alone).collect(heap)?;
+        let links = (0..END + 1).map(Link::alone).collect(heap)?;
         Ok(PageQueue { links, len: 0 })
     }
 
@@ -78,6 +78,7 @@ impl PageQueue {
     // Moves a page to the end; false, and nothing changes, where it is not there.
     pub fn move_to_back(&mut self, page: u32) -> bool
         ensures found { result ≡ has page self.old }
+        ensures page { result ≡ true → page < 4096 }
         ensures pages { self.new ≡ (if has page self.old then without page self.old ++ page ∷ [] else self.old) }
     {
         if !self.remove(page) {
